@@ -1,0 +1,33 @@
+-- The ranges of the elements, IEC 60870-5-101, 7.2.6.28 to 7.2.6.38: what their bits can carry.
+-- NOF, NOS, LSQ and CHS use every bit of their octets, so they have no range of their own.
+use mathlib.Core.Bool.{Bool}
+use Rattle.laws.specs.When.{_and_}
+use lib.Dec.{leb}
+use Rattle.asdu.specs.declared.file.Frq.{Frq}
+use Rattle.asdu.specs.declared.file.Srq.{Srq}
+use Rattle.asdu.specs.declared.file.Scq.{Scq}
+use Rattle.asdu.specs.declared.file.Afq.{Afq}
+use Rattle.asdu.specs.declared.file.Lof.{Lof}
+use Rattle.asdu.specs.declared.file.Sof.{Sof}
+
+-- seven bits beside the flag
+abbrev pub frqInRange : Frq → Bool
+frqInRange q = leb (q .value) 127
+
+abbrev pub srqInRange : Srq → Bool
+srqInRange q = leb (q .value) 127
+
+-- four bits each
+unfoldable pub scqInRange : Scq → Bool
+scqInRange q = leb (q .action) 15 and leb (q .error) 15
+
+unfoldable pub afqInRange : Afq → Bool
+afqInRange q = leb (q .action) 15 and leb (q .error) 15
+
+-- three octets
+abbrev pub lofInRange : Lof → Bool
+lofInRange l = leb (l .value) 0xFFFFFF
+
+-- five bits beside the three flags
+abbrev pub sofInRange : Sof → Bool
+sofInRange s = leb (s .status) 31

@@ -1,0 +1,5 @@
+pub mod Number
+pub mod Elements
+pub mod Time
+pub mod Sizes
+pub mod Header

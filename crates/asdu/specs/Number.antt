@@ -1,0 +1,23 @@
+-- Document 01's number of each refusal: 1 to 11 because of the input, 21 to 26 because of the state.
+use Prim.Native.Nat.{ℕ}
+use Rattle.asdu.specs.declared.error.FtError.{FtError}
+use Rattle.asdu.specs.declared.error.FtError.the-variants as E
+
+abbrev pub numberOf : FtError → ℕ
+numberOf E.FileTooLong = 1
+numberOf E.InvalidAddressSizes = 2
+numberOf E.AddressOutOfRange = 3
+numberOf E.ValueOutOfRange = 4
+numberOf E.EmptySegment = 5
+numberOf E.SegmentTooLong = 6
+numberOf E.CallDirectoryAction = 7
+numberOf (E.ChecksumMismatch expected got) = 8
+numberOf E.IndexOutOfRange = 9
+numberOf E.Undecodable = 10
+numberOf E.ScriptMisshapen = 11
+numberOf E.FunctionNotUsed = 21
+numberOf E.NotSelectedDirection = 22
+numberOf E.EchoMismatch = 23
+numberOf E.StoreFull = 24
+numberOf E.DirectoryFull = 25
+numberOf E.RecordMismatch = 26

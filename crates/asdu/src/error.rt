@@ -1,0 +1,53 @@
+// Every numbered refusal of document 01, one case each: Rust's AsduError and FtError in one.
+use crate::file::Chs;
+ghost use mathlib.Core.Path.{_≡_};
+ghost use Rattle.asdu.specs.Number.{numberOf};
+
+pub enum FtError {
+    // Because of the input.
+    FileTooLong,
+    InvalidAddressSizes,
+    AddressOutOfRange,
+    ValueOutOfRange,
+    EmptySegment,
+    SegmentTooLong,
+    CallDirectoryAction,
+    ChecksumMismatch { expected: Chs, got: Chs },
+    IndexOutOfRange,
+    Undecodable,
+    ScriptMisshapen,
+    // Because of the state.
+    FunctionNotUsed,
+    NotSelectedDirection,
+    EchoMismatch,
+    StoreFull,
+    DirectoryFull,
+    RecordMismatch,
+}
+
+impl FtError {
+    // Document 01's number of the refusal.
+    pub fn number(self) -> u8
+        ensures { λ r. ⌜ r ≡ numberOf self ⌝ }
+    {
+        match self {
+            FtError::FileTooLong => 1,
+            FtError::InvalidAddressSizes => 2,
+            FtError::AddressOutOfRange => 3,
+            FtError::ValueOutOfRange => 4,
+            FtError::EmptySegment => 5,
+            FtError::SegmentTooLong => 6,
+            FtError::CallDirectoryAction => 7,
+            FtError::ChecksumMismatch { .. } => 8,
+            FtError::IndexOutOfRange => 9,
+            FtError::Undecodable => 10,
+            FtError::ScriptMisshapen => 11,
+            FtError::FunctionNotUsed => 21,
+            FtError::NotSelectedDirection => 22,
+            FtError::EchoMismatch => 23,
+            FtError::StoreFull => 24,
+            FtError::DirectoryFull => 25,
+            FtError::RecordMismatch => 26,
+        }
+    }
+}
