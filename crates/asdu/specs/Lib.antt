@@ -3,3 +3,4 @@ pub mod Elements
 pub mod Time
 pub mod Sizes
 pub mod Header
+pub mod Entry
