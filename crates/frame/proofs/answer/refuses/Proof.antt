@@ -1,0 +1,25 @@
+use Rattle.laws.proofs.Decide.{whens}
+use borrow.Author.Needs.{needs}
+use Rattle.frame.proofs.answer.refuses.Statement.{statement}
+use Rattle.frame.proofs.answer.refuses.Tie as tie
+
+pub refuses-spec : {M : Type 1} → statement M
+refuses-spec =
+    tie.close
+    (tie.spec
+    (λ c. search needs)
+    (λ c. search needs)
+    (λ c. search needs)
+    (λ c. search needs)
+    (λ c. search needs)
+    (λ c. search needs)
+    (λ c. search needs)
+    (λ c. search needs)
+    (λ c. simp (whens, c .known-told .given .1, c .before .frame .given .1))
+    (λ c. simp (whens, c .known-told2 .given .1, c .before .frame2 .given .1))
+    (λ c. search needs)
+    (λ c. search needs)
+    (λ c. search needs)
+    (λ c. search needs)
+    (λ c. search needs)
+    (λ c. search needs))

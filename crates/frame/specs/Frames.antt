@@ -1,0 +1,62 @@
+-- What a frame says of itself: type identification, cause of transmission, side, object address, names (IEC 60870-5-101, 7.3.6; document 01, Elements and frames).
+use Prim.Native.Nat.{ℕ}
+use mathlib.Core.Bool.{Bool, true, false}
+use lib.Dec.{eqb, leb}
+use Rattle.laws.specs.When.{when, _and_, _or_}
+use Rattle.asdu.specs.declared.file.Scq.{Scq}
+use Rattle.asdu.specs.declared.header.Cause.{Cause}
+use Rattle.frame.specs.declared.Frame.{Frame}
+use Rattle.frame.specs.declared.Frame.the-variants.{FileReady, SectionReady, Sc, LastSection, Ack, Segment, Directory, QueryLog}
+
+abbrev pub typeOf : Frame → ℕ
+typeOf (FileReady ioa nof lof frq) = 120
+typeOf (SectionReady ioa nof nos lof srq) = 121
+typeOf (Sc ioa nof nos scq) = 122
+typeOf (LastSection ioa nof nos lsq chs) = 123
+typeOf (Ack ioa nof nos afq) = 124
+typeOf (Segment ioa nof nos los) = 125
+typeOf (Directory ioa cause) = 126
+typeOf (QueryLog ioa nof start stop) = 127
+
+-- the call of a directory goes as a request, <5>; every other call, selection or deactivation as file transfer, <13>
+unfoldable pub scCause : Scq → Cause
+scCause q = when (eqb (q .action) 0) (record { value = 5 }) (record { value = 13 })
+
+abbrev pub causeOf : Frame → Cause
+causeOf (FileReady ioa nof lof frq) = record { value = 13 }
+causeOf (SectionReady ioa nof nos lof srq) = record { value = 13 }
+causeOf (Sc ioa nof nos scq) = scCause scq
+causeOf (LastSection ioa nof nos lsq chs) = record { value = 13 }
+causeOf (Ack ioa nof nos afq) = record { value = 13 }
+causeOf (Segment ioa nof nos los) = record { value = 13 }
+causeOf (Directory ioa cause) = cause
+causeOf (QueryLog ioa nof start stop) = record { value = 13 }
+
+-- the requests, the acknowledgements and the query of a log come from the side that receives the file
+abbrev pub receiverSide : Frame → Bool
+receiverSide (FileReady ioa nof lof frq) = false
+receiverSide (SectionReady ioa nof nos lof srq) = false
+receiverSide (Sc ioa nof nos scq) = true
+receiverSide (LastSection ioa nof nos lsq chs) = false
+receiverSide (Ack ioa nof nos afq) = true
+receiverSide (Segment ioa nof nos los) = false
+receiverSide (Directory ioa cause) = false
+receiverSide (QueryLog ioa nof start stop) = true
+
+abbrev pub ioaOf : Frame → ℕ
+ioaOf (FileReady ioa nof lof frq) = ioa
+ioaOf (SectionReady ioa nof nos lof srq) = ioa
+ioaOf (Sc ioa nof nos scq) = ioa
+ioaOf (LastSection ioa nof nos lsq chs) = ioa
+ioaOf (Ack ioa nof nos afq) = ioa
+ioaOf (Segment ioa nof nos los) = ioa
+ioaOf (Directory ioa cause) = ioa
+ioaOf (QueryLog ioa nof start stop) = ioa
+
+-- the file transfer's types
+unfoldable pub isFileType : ℕ → Bool
+isFileType t = leb 120 t and leb t 127
+
+-- those of the receiving side's frames
+unfoldable pub receiverSideType : ℕ → Bool
+receiverSideType t = eqb t 122 or eqb t 124 or eqb t 127
