@@ -4,16 +4,19 @@ use crate::file::Lof;
 use crate::file::Nof;
 use crate::file::Sof;
 use crate::time::Cp56Time2a;
+ghost use mathlib.Core.Path.{_≡_};
+ghost use mathlib.Core.Bool.{true};
+ghost use Prim.Native.Nat.{_+_, _*_, _/_, _%_, _<_, _≤_};
+ghost use lib.ListN.{length, take, drop};
+ghost use lib.Seq.{sets};
+ghost use Rattle.asdu.specs.Time.{timeInRange};
+ghost use Rattle.asdu.specs.Entry.{entryInRange, flag, sofOctet, timeOctets, entryOctets, bitOf, sofOf, timeAt, entryOf, reservedClear, packAnswer, packInto, unpacked, allClear, pageRight};
 
 pub struct DirectoryEntry {
     pub nof: Nof,
     pub lof: Lof,
     pub sof: Sof,
     pub time: Cp56Time2a,
-}
-
-impl DirectoryEntry {
-    pub const LEN: usize = 13;
 }
 
 pub enum EntryResult {
@@ -25,4 +28,230 @@ pub enum EntryResult {
 pub enum Packed {
     Ok,
     Err(FtError),
+}
+
+impl DirectoryEntry {
+    pub const LEN: usize = 13;
+
+    // Whether the octets' bits can carry every element.
+    pub fn is_in_range(self) -> bool
+        ensures { λ r. ⌜ r ≡ entryInRange self ⌝ }
+    {
+        let lof = self.lof;
+        let sof = self.sof;
+        let time = self.time;
+        if lof.is_in_range() {
+            if sof.is_in_range() {
+                return time.is_in_range();
+            }
+        }
+        false
+    }
+
+    // Writes the entry's octets, or changes nothing and answers 4.
+    pub fn pack(self, out: &mut [u8]) -> Packed
+        ensures { λ r. ⌜ (r ≡ packAnswer self (now (out .entry))) × (now (out .exit) ≡ packInto self (now (out .entry))) ⌝ }
+    {
+        if self.is_in_range() {
+            if out.len() == DirectoryEntry::LEN {
+                write_entry(self, out);
+                return Packed::Ok;
+            }
+        }
+        Packed::Err(FtError::ValueOutOfRange)
+    }
+
+    // The entry that 13 octets carry, or 4 where a reserved bit is set.
+    pub fn unpack(octets: &[u8]) -> EntryResult
+        ensures { λ r. ⌜ r ≡ unpacked (now (octets .entry)) ⌝ }
+    {
+        if octets.len() == DirectoryEntry::LEN {
+            if is_clear_at(octets, 0) {
+                return EntryResult::Ok(entry_of(octets));
+            }
+        }
+        EntryResult::Err(FtError::ValueOutOfRange)
+    }
+}
+
+// ---- Entry to octets
+
+fn low_octet(x: u16) -> u8
+    ensures { λ r. ⌜ r ≡ x % 256 ⌝ }
+{
+    (x % 256) as u8
+}
+
+fn high_octet(x: u16) -> u8
+    ensures { λ r. ⌜ r ≡ x / 256 ⌝ }
+{
+    (x / 256) as u8
+}
+
+// A flag's weight in its octet, where it is set.
+fn weight_of(weight: u8, b: bool) -> u8
+    ensures { λ r. ⌜ (r ≡ flag weight b) × (r ≤ weight) ⌝ }
+{
+    if b { weight } else { 0 }
+}
+
+fn sof_octet(sof: Sof) -> u8
+    requires { ⌜ sof .status ≤ 31 ⌝ }
+    ensures { λ r. ⌜ r ≡ sofOctet sof ⌝ }
+{
+    sof.status
+        + weight_of(32, sof.last_file_of_directory)
+        + weight_of(64, sof.name_defines_subdirectory)
+        + weight_of(128, sof.transfer_active)
+}
+
+fn minutes_octet(time: Cp56Time2a) -> u8
+    requires { ⌜ time .minutes ≤ 63 ⌝ }
+    ensures { λ r. ⌜ r ≡ time .minutes + flag 64 (time .substituted) + flag 128 (time .invalid) ⌝ }
+{
+    time.minutes + weight_of(64, time.substituted) + weight_of(128, time.invalid)
+}
+
+// The time's octets, in the places from 6 on.
+fn write_time(time: Cp56Time2a, out: &mut [u8])
+    requires { ⌜ (timeInRange time ≡ true) × (length (now out) ≡ 13) ⌝ }
+    ensures { λ _. ⌜ now (out .exit) ≡ sets (now (out .entry)) 6 (timeOctets time) ⌝ }
+{
+    out[6] = low_octet(time.milliseconds);
+    out[7] = high_octet(time.milliseconds);
+    out[8] = minutes_octet(time);
+    out[9] = time.hours + weight_of(128, time.summer_time);
+    out[10] = time.day_of_month + 32 * time.day_of_week;
+    out[11] = time.months;
+    out[12] = time.years;
+}
+
+fn write_entry(entry: DirectoryEntry, out: &mut [u8])
+    requires { ⌜ (entryInRange entry ≡ true) × (length (now out) ≡ 13) ⌝ }
+    ensures { λ _. ⌜ now (out .exit) ≡ entryOctets entry ⌝ }
+{
+    let lof = entry.lof.value;
+    let sof = entry.sof;
+    let time = entry.time;
+    out[0] = low_octet(entry.nof.value);
+    out[1] = high_octet(entry.nof.value);
+    out[2] = (lof % 256) as u8;
+    out[3] = (lof / 256 % 256) as u8;
+    out[4] = (lof / 65536) as u8;
+    out[5] = sof_octet(sof);
+    write_time(time, out);
+}
+
+// ---- Octets to entry
+
+fn two_octets(low: u8, high: u8) -> u16
+    ensures { λ r. ⌜ r ≡ low + 256 * high ⌝ }
+{
+    low as u16 + 256 * (high as u16)
+}
+
+fn three_octets(low: u8, middle: u8, high: u8) -> u32
+    ensures { λ r. ⌜ r ≡ low + 256 * middle + 65536 * high ⌝ }
+{
+    low as u32 + 256 * (middle as u32) + 65536 * (high as u32)
+}
+
+fn has_bit(weight: u8, octet: u8) -> bool
+    requires { ⌜ 0 < weight ⌝ }
+    ensures { λ r. ⌜ r ≡ bitOf weight octet ⌝ }
+{
+    octet / weight % 2 == 1
+}
+
+fn sof_of(octet: u8) -> Sof
+    ensures { λ r. ⌜ r ≡ sofOf octet ⌝ }
+{
+    Sof {
+        status: octet % 32,
+        last_file_of_directory: has_bit(32, octet),
+        name_defines_subdirectory: has_bit(64, octet),
+        transfer_active: has_bit(128, octet),
+    }
+}
+
+// The time in the seven octets that begin at this place.
+fn time_at(octets: &[u8], at: usize) -> Cp56Time2a
+    requires { ⌜ at + 7 ≤ length (now octets) ⌝ }
+    ensures { λ r. ⌜ r ≡ timeAt (now (octets .entry)) at ⌝ }
+{
+    let minutes = octets[at + 2];
+    let hours = octets[at + 3];
+    let day = octets[at + 4];
+    Cp56Time2a {
+        milliseconds: two_octets(octets[at], octets[at + 1]),
+        minutes: minutes % 64,
+        substituted: has_bit(64, minutes),
+        invalid: has_bit(128, minutes),
+        hours: hours % 32,
+        summer_time: has_bit(128, hours),
+        day_of_month: day % 32,
+        day_of_week: day / 32,
+        months: octets[at + 5] % 16,
+        years: octets[at + 6] % 128,
+    }
+}
+
+fn entry_of(octets: &[u8]) -> DirectoryEntry
+    requires { ⌜ length (now octets) ≡ 13 ⌝ }
+    ensures { λ r. ⌜ r ≡ entryOf (now (octets .entry)) ⌝ }
+{
+    DirectoryEntry {
+        nof: Nof {
+            value: two_octets(octets[0], octets[1]),
+        },
+        lof: Lof {
+            value: three_octets(octets[2], octets[3], octets[4]),
+        },
+        sof: sof_of(octets[5]),
+        time: time_at(octets, 6),
+    }
+}
+
+// Whether the reserved bits are 0 in the entry that begins at this place.
+fn is_clear_at(octets: &[u8], at: usize) -> bool
+    requires { ⌜ at + 13 ≤ length (now octets) ⌝ }
+    ensures { λ r. ⌜ r ≡ reservedClear (take 13 (drop at (now (octets .entry)))) ⌝ }
+{
+    if octets[at + 9] / 32 % 4 == 0 {
+        if octets[at + 11] / 16 == 0 {
+            return octets[at + 12] / 128 == 0;
+        }
+    }
+    false
+}
+
+// Whether the reserved bits are 0 in every whole entry.
+fn is_clear(octets: &[u8]) -> bool
+    ensures { λ r. ⌜ r ≡ allClear (length (now (octets .entry)) / 13) (now (octets .entry)) ⌝ }
+{
+    let mut left = octets.len() / DirectoryEntry::LEN;
+    let mut at = 0;
+    while 0 < left {
+        if !is_clear_at(octets, at) {
+            return false;
+        }
+        at += DirectoryEntry::LEN;
+        left -= 1;
+    }
+    true
+}
+
+// Whether these are the entries of a directory page: 1 to 18 whole ones, with every reserved bit 0.
+pub fn is_page(octets: &[u8]) -> bool
+    ensures { λ r. ⌜ r ≡ pageRight (now (octets .entry)) ⌝ }
+{
+    let entries = octets.len() / DirectoryEntry::LEN;
+    if octets.len() % DirectoryEntry::LEN == 0 {
+        if 1 <= entries {
+            if entries <= 18 {
+                return is_clear(octets);
+            }
+        }
+    }
+    false
 }
