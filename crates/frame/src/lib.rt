@@ -2,6 +2,7 @@
 // of itself, and which frame answers which. A segment's payload and a directory's packed entries stand
 // beside the frame, as the octets that are handed in with it.
 pub mod answer; // which frame answers which
+pub mod range; // whether a frame can be carried
 
 use asdu::file::Afq;
 use asdu::file::Chs;
