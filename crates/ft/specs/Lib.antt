@@ -1,3 +1,5 @@
 pub mod Checksum
 pub mod Directions
 pub mod Procedure
+pub mod Admission
+pub mod Building

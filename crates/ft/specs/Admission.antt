@@ -1,0 +1,107 @@
+-- What a received frame means to a station (document 01, The admitted frame; IEC 60870-5-101, 7.2.3, and 60870-5-104, 7.11).
+use Prim.Native.Nat.{ℕ}
+use mathlib.Core.Bool.{Bool, true, false}
+use mathlib.Core.List.{List}
+use lib.Dec.{eqb, leb}
+use Rattle.laws.specs.When.{when, unless, _and_}
+use Rattle.asdu.specs.Sizes.{maxIoa, maxCommonAddress}
+use Rattle.asdu.specs.Header.{isMirror, unspecifiedCause}
+use Rattle.asdu.specs.declared.sizes.AddressSizes.{AddressSizes}
+use Rattle.asdu.specs.declared.header.Header.{Header}
+use Rattle.asdu.specs.declared.header.UnknownField.{UnknownField}
+use Rattle.asdu.specs.declared.header.UnknownField.the-variants.{Nothing, First}
+use Rattle.asdu.specs.declared.header.Unspecified.{Unspecified}
+use Rattle.asdu.specs.declared.header.Unspecified.the-variants.{TypeIdentification, CommonAddress}
+use Rattle.asdu.specs.declared.header.Discard.the-variants as D
+use Rattle.asdu.specs.declared.error.FtError.the-variants as E
+use Rattle.frame.specs.declared.Frame.{Frame}
+use Rattle.frame.specs.Frames.{typeOf, causeOf, receiverSide, ioaOf, isFileType, receiverSideType}
+use Rattle.frame.specs.Ranges.{valuesInRange}
+use Rattle.frame.specs.Answers.{answersTo}
+use Rattle.ft.specs.Directions.{otherRole, directionFor, usesDirection, usesFunction}
+use Rattle.ft.specs.Procedure.{settled}
+use Rattle.ft.specs.declared.direction.Role.{Role}
+use Rattle.ft.specs.declared.direction.Role.the-variants.{Controlling, Controlled}
+use Rattle.ft.specs.declared.direction.Selection.{Selection}
+use Rattle.ft.specs.declared.procedure.FileTransferProcedure.{FileTransferProcedure}
+use Rattle.ft.specs.declared.admit.Received.{Received}
+use Rattle.ft.specs.declared.admit.Received.the-variants as R
+use Rattle.ft.specs.declared.admit.Reaction.{Reaction}
+use Rattle.ft.specs.declared.admit.Reaction.the-variants.{Requested, Answered, Refused, Discard, Other, Err}
+
+-- whether the station uses the direction of what a station of this role sends
+unfoldable pub serves : FileTransferProcedure → Role → Bool → Bool
+serves p sender side = usesDirection (p .selection) (directionFor sender side)
+
+-- an unknown field: a controlled station refuses with its cause and a mirror, a controlling one discards and names the field
+abbrev pub unspecified : Role → Unspecified → Reaction
+unspecified Controlled which = Refused (unspecifiedCause which) true
+unspecified Controlling which = Discard (D.Unspecified which)
+
+-- step 2: a mirror is the other station's refusal where this role sends its type in a direction that is used
+unfoldable pub mirrored : FileTransferProcedure → Header → Reaction
+mirrored p h = when (serves p (p .role) (receiverSideType (h .«type_id»))) (Refused (h .cause) false) (Discard D.Mirror)
+
+-- step 5: every value in range, the object address within its width, and the header's type and cause those of the frame
+unfoldable pub frameAgrees : AddressSizes → Header → Frame → List ℕ → Bool
+frameAgrees z h f beside =
+    leb (ioaOf f) (maxIoa z)
+    and valuesInRange z f beside
+    and eqb (typeOf f) (h .«type_id»)
+    and eqb (causeOf f .value) (h .cause .value)
+
+-- a controlling station refuses with 21 where it uses neither direction, else with 22
+unfoldable pub notServed : Selection → Reaction
+notServed s = when (usesFunction s) (Err E.NotSelectedDirection) (Err E.FunctionNotUsed)
+
+abbrev pub unservedBy : Role → Selection → Reaction
+unservedBy Controlled s = unspecified Controlled TypeIdentification
+unservedBy Controlling s = notServed s
+
+-- step 6
+unfoldable pub unserved : FileTransferProcedure → Reaction
+unserved p = unservedBy (p .role) (p .selection)
+
+-- steps 5 to 7 of a frame: 4; the direction, the other role sending; receiver-side frames are requested, others answered
+unfoldable pub admitFrame : FileTransferProcedure → Header → Frame → List ℕ → Reaction
+admitFrame p h f beside =
+    unless (frameAgrees (p .sizes) h f beside) (Err E.ValueOutOfRange)
+    (unless (serves p (otherRole (p .role)) (receiverSide f)) (unserved p)
+    (when (receiverSide f) (Requested f)
+    (Answered f)))
+
+-- step 5: undecodable is 10
+abbrev pub admitReceived : FileTransferProcedure → Header → Received → List ℕ → Reaction
+admitReceived p h R.Undecodable beside = Err E.Undecodable
+admitReceived p h (R.Frame f) beside = admitFrame p h f beside
+
+-- step 4: the first unknown field
+abbrev pub admitKnown : FileTransferProcedure → Header → UnknownField → Received → List ℕ → Reaction
+admitKnown p h (First which) received beside = unspecified (p .role) which
+admitKnown p h Nothing received beside = admitReceived p h received beside
+
+-- 26, 3, then steps 1 to 7 in their order
+unfoldable pub onAsdu : FileTransferProcedure → Header → UnknownField → Received → List ℕ → Reaction
+onAsdu p h unknown received beside =
+    unless (settled p) (Err E.RecordMismatch)
+    (unless (leb (h .«common_address») (maxCommonAddress (p .sizes))) (Err E.AddressOutOfRange)
+    (unless (isFileType (h .«type_id»)) Other
+    (when (isMirror h) (mirrored p h)
+    (when (eqb (h .«common_address») (maxCommonAddress (p .sizes))) (unspecified (p .role) CommonAddress)
+    (admitKnown p h unknown received beside)))))
+
+-- a frame that does not answer the one sent is 23
+unfoldable pub answered : Frame → Frame → Reaction
+answered sent f = unless (answersTo sent f) (Err E.EchoMismatch) (Answered f)
+
+abbrev pub matched : Frame → Reaction → Reaction
+matched sent (Answered f) = answered sent f
+matched sent (Requested f) = Requested f
+matched sent (Refused cause mirror) = Refused cause mirror
+matched sent (Discard why) = Discard why
+matched sent Other = Other
+matched sent (Err e) = Err e
+
+-- the same for a station that waits for the answer to a frame it sent
+unfoldable pub onAnswer : FileTransferProcedure → Header → UnknownField → Received → List ℕ → Frame → Reaction
+onAnswer p h unknown received beside sent = matched sent (onAsdu p h unknown received beside)

@@ -1,0 +1,61 @@
+-- The frames that a station makes, with the header that they go under (document 01, refusals 3 to 7, 21 and 22).
+use Prim.Native.Nat.{ℕ}
+use mathlib.Core.Bool.{Bool, true, false}
+use mathlib.Core.List.{List, []}
+use lib.Dec.{eqb, leb}
+use lib.ListN.{length}
+use Rattle.laws.specs.When.{when, unless, _and_}
+use Rattle.asdu.specs.Sizes.{maxIoa}
+use Rattle.asdu.specs.declared.file.Nof.{Nof}
+use Rattle.asdu.specs.declared.file.Nos.{Nos}
+use Rattle.asdu.specs.declared.file.Scq.{Scq}
+use Rattle.asdu.specs.declared.sizes.AddressSizes.{AddressSizes}
+use Rattle.asdu.specs.declared.header.Header.{Header}
+use Rattle.asdu.specs.declared.error.FtError.the-variants as E
+use Rattle.frame.specs.declared.Frame.{Frame}
+use Rattle.frame.specs.declared.Frame.the-variants.{Sc, Segment}
+use Rattle.frame.specs.Frames.{typeOf, causeOf, receiverSide, ioaOf}
+use Rattle.frame.specs.Ranges.{valuesInRange}
+use Rattle.ft.specs.Directions.{usesFunction}
+use Rattle.ft.specs.Procedure.{conventional, addressRight, settled}
+use Rattle.ft.specs.Admission.{serves}
+use Rattle.ft.specs.declared.procedure.FileTransferProcedure.{FileTransferProcedure}
+use Rattle.ft.specs.declared.build.AsduResult.{AsduResult}
+use Rattle.ft.specs.declared.build.AsduResult.the-variants.{Ok, Err}
+
+-- the own addresses, and an object address within its width
+unfoldable pub addressed : AddressSizes → ℕ → ℕ → ℕ → Bool
+addressed z ca org ioa = addressRight z ca org and leb ioa (maxIoa z)
+
+-- the header of a frame that goes out: its type and cause, the own addresses, not negative
+abbrev pub headerOf : ℕ → ℕ → Frame → Header
+headerOf ca org f =
+    record { «type_id» = typeOf f; cause = causeOf f; negative = false; originator = org; «common_address» = ca }
+
+-- a value out of range is 4, then an address 3
+unfoldable pub framed : AddressSizes → ℕ → ℕ → Frame → List ℕ → AsduResult
+framed z ca org f beside =
+    unless (valuesInRange z f beside) (Err E.ValueOutOfRange)
+    (unless (addressed z ca org (ioaOf f)) (Err E.AddressOutOfRange)
+    (Ok (record { header = headerOf ca org f; frame = f })))
+
+-- a station's own frame: 26, then 21 where it uses neither direction, 22 where not the frame's, 4, 3
+unfoldable pub built : FileTransferProcedure → Frame → List ℕ → AsduResult
+built p f beside =
+    unless (settled p) (Err E.RecordMismatch)
+    (unless (usesFunction (p .selection)) (Err E.FunctionNotUsed)
+    (unless (serves p (p .role) (receiverSide f)) (Err E.NotSelectedDirection)
+    (framed (p .sizes) (p .ca) (p .org) f beside)))
+
+-- a request with an action of its own: the call of a directory, action 0, is 7
+unfoldable pub scMade : ℕ → ℕ → ℕ → Nof → Nos → Scq → AsduResult
+scMade ca org ioa nof nos scq =
+    when (eqb (scq .action) 0) (Err E.CallDirectoryAction)
+    (framed conventional ca org (Sc ioa nof nos scq) [])
+
+-- a segment of the payload's length: none is 5, over 236 octets is 6
+unfoldable pub segmentMade : ℕ → ℕ → ℕ → Nof → Nos → List ℕ → AsduResult
+segmentMade ca org ioa nof nos payload =
+    when (eqb (length payload) 0) (Err E.EmptySegment)
+    (unless (leb (length payload) 236) (Err E.SegmentTooLong)
+    (framed conventional ca org (Segment ioa nof nos (record { value = length payload })) payload))
