@@ -1,23 +1,18 @@
--- The frames that a station makes, with the header that they go under (document 01, refusals 3 to 7, 21 and 22).
+-- The frames that a station makes, with the header that they go under (document 01, refusals 3, 4, 21 and 22).
 use Prim.Native.Nat.{ℕ}
 use mathlib.Core.Bool.{Bool, true, false}
-use mathlib.Core.List.{List, []}
-use lib.Dec.{eqb, leb}
-use lib.ListN.{length}
-use Rattle.laws.specs.When.{when, unless, _and_}
+use mathlib.Core.List.{List}
+use lib.Dec.{leb}
+use Rattle.laws.specs.When.{unless, _and_}
 use Rattle.asdu.specs.Sizes.{maxIoa}
-use Rattle.asdu.specs.declared.file.Nof.{Nof}
-use Rattle.asdu.specs.declared.file.Nos.{Nos}
-use Rattle.asdu.specs.declared.file.Scq.{Scq}
 use Rattle.asdu.specs.declared.sizes.AddressSizes.{AddressSizes}
 use Rattle.asdu.specs.declared.header.Header.{Header}
 use Rattle.asdu.specs.declared.error.FtError.the-variants as E
 use Rattle.frame.specs.declared.Frame.{Frame}
-use Rattle.frame.specs.declared.Frame.the-variants.{Sc, Segment}
 use Rattle.frame.specs.Frames.{typeOf, causeOf, receiverSide, ioaOf}
 use Rattle.frame.specs.Ranges.{valuesInRange}
 use Rattle.ft.specs.Directions.{usesFunction}
-use Rattle.ft.specs.Procedure.{conventional, addressRight, settled}
+use Rattle.ft.specs.Procedure.{addressRight, settled}
 use Rattle.ft.specs.Admission.{serves}
 use Rattle.ft.specs.declared.procedure.FileTransferProcedure.{FileTransferProcedure}
 use Rattle.ft.specs.declared.build.AsduResult.{AsduResult}
@@ -46,16 +41,3 @@ built p f beside =
     (unless (usesFunction (p .selection)) (Err E.FunctionNotUsed)
     (unless (serves p (p .role) (receiverSide f)) (Err E.NotSelectedDirection)
     (framed (p .sizes) (p .ca) (p .org) f beside)))
-
--- a request with an action of its own: the call of a directory, action 0, is 7
-unfoldable pub scMade : ℕ → ℕ → ℕ → Nof → Nos → Scq → AsduResult
-scMade ca org ioa nof nos scq =
-    when (eqb (scq .action) 0) (Err E.CallDirectoryAction)
-    (framed conventional ca org (Sc ioa nof nos scq) [])
-
--- a segment of the payload's length: none is 5, over 236 octets is 6
-unfoldable pub segmentMade : ℕ → ℕ → ℕ → Nof → Nos → List ℕ → AsduResult
-segmentMade ca org ioa nof nos payload =
-    when (eqb (length payload) 0) (Err E.EmptySegment)
-    (unless (leb (length payload) 236) (Err E.SegmentTooLong)
-    (framed conventional ca org (Segment ioa nof nos (record { value = length payload })) payload))

@@ -1,30 +1,14 @@
-// The frames that a station makes, with the header that they go under. A station's own `build` asks
-// whether it uses the frame's direction; the makers stand for the conventional widths and ask only
-// whether the frame can be carried.
+// The frames that a station makes, with the header that they go under: whether the frame can be carried
+// with the system's widths, and whether the station uses its direction.
 use crate::procedure;
 use crate::procedure::FileTransferProcedure;
 use asdu::error::FtError;
-use asdu::file::Afq;
-use asdu::file::Chs;
-use asdu::file::Frq;
-use asdu::file::Lof;
-use asdu::file::Los;
-use asdu::file::Lsq;
-use asdu::file::Nof;
-use asdu::file::Nos;
-use asdu::file::Scq;
-use asdu::file::Srq;
-use asdu::header::Cause;
 use asdu::header::Header;
-use asdu::sizes;
 use asdu::sizes::AddressSizes;
-use asdu::time::Cp56Time2a;
 use frame::Frame;
 use frame::range;
 ghost use mathlib.Core.Path.{_≡_};
-ghost use mathlib.Core.List.{[]};
-ghost use Rattle.ft.specs.Procedure.{conventional};
-ghost use Rattle.ft.specs.Building.{addressed, headerOf, framed, built, scMade, segmentMade};
+ghost use Rattle.ft.specs.Building.{addressed, headerOf, framed, built};
 
 // A frame with the facts of its header. What stands beside it is as the caller handed it in.
 pub struct Asdu {
