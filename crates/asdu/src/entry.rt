@@ -174,16 +174,16 @@ fn sof_of(octet: u8) -> Sof
     }
 }
 
-// The time in the seven octets that begin at this place.
-fn time_at(octets: &[u8], at: usize) -> Cp56Time2a
-    requires { ⌜ at + 7 ≤ length (now octets) ⌝ }
-    ensures { λ r. ⌜ r ≡ timeAt (now (octets .entry)) at ⌝ }
+// The time in the octets from 6 on.
+fn time_of(octets: &[u8]) -> Cp56Time2a
+    requires { ⌜ length (now octets) ≡ 13 ⌝ }
+    ensures { λ r. ⌜ r ≡ timeAt (now (octets .entry)) 6 ⌝ }
 {
-    let minutes = octets[at + 2];
-    let hours = octets[at + 3];
-    let day = octets[at + 4];
+    let minutes = octets[8];
+    let hours = octets[9];
+    let day = octets[10];
     Cp56Time2a {
-        milliseconds: two_octets(octets[at], octets[at + 1]),
+        milliseconds: two_octets(octets[6], octets[7]),
         minutes: minutes % 64,
         substituted: has_bit(64, minutes),
         invalid: has_bit(128, minutes),
@@ -191,8 +191,8 @@ fn time_at(octets: &[u8], at: usize) -> Cp56Time2a
         summer_time: has_bit(128, hours),
         day_of_month: day % 32,
         day_of_week: day / 32,
-        months: octets[at + 5] % 16,
-        years: octets[at + 6] % 128,
+        months: octets[11] % 16,
+        years: octets[12] % 128,
     }
 }
 
@@ -208,7 +208,7 @@ fn entry_of(octets: &[u8]) -> DirectoryEntry
             value: three_octets(octets[2], octets[3], octets[4]),
         },
         sof: sof_of(octets[5]),
-        time: time_at(octets, 6),
+        time: time_of(octets),
     }
 }
 

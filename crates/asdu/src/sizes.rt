@@ -122,10 +122,10 @@ impl AddressSizes {
     pub fn max_common_address(self) -> u16
         ensures { λ r. ⌜ r ≡ maxCommonAddress self ⌝ }
     {
-        let octets = self.common_address_octets;
-        match octets {
-            1 => 0xFF,
-            _ => 0xFFFF,
+        if self.common_address_octets == 1 {
+            0xFF
+        } else {
+            0xFFFF
         }
     }
 

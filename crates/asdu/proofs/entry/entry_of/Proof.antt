@@ -1,4 +1,3 @@
-use Rattle.laws.proofs.Decide.{whens}
 use borrow.Author.Needs.{needs}
 use Rattle.asdu.specs.Entry.{entryOf}
 use Rattle.asdu.proofs.entry.entry_of.Statement.{statement}
@@ -21,8 +20,7 @@ entry-of-spec =
     (λ c κs. search needs)
     (λ c.
     simp (
-      whens,
-      ← (c .time-at .ensures),
+      ← (c .time-of .ensures),
       ← (c .before .sof-of .ensures),
       ← (c .before .before .before .three-octets .ensures),
       ← (c .before .before .before .before .before .before .before .two-octets .ensures),

@@ -1,4 +1,3 @@
-use Rattle.laws.proofs.Decide.{whens}
 use borrow.Author.Needs.{needs}
 use Rattle.asdu.specs.Entry.{sofOf}
 use Rattle.asdu.proofs.entry.sof_of.Statement.{statement}
@@ -12,4 +11,4 @@ sof-of-spec =
     (λ c κs. search needs)
     (λ c κs. search needs)
     (λ c κs. search needs)
-    (λ c. simp (whens, ← (c .has-bit3 .ensures), ← (c .before .has-bit2 .ensures), ← (c .before .before .has-bit .ensures))))
+    (λ c. simp (← (c .has-bit3 .ensures), ← (c .before .has-bit2 .ensures), ← (c .before .before .has-bit .ensures))))

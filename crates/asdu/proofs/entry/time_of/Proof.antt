@@ -1,12 +1,11 @@
-use Rattle.laws.proofs.Decide.{whens}
 use borrow.Author.Needs.{needs}
 use Rattle.asdu.specs.Entry.{timeAt}
-use Rattle.asdu.proofs.entry.time_at.Statement.{statement}
-use Rattle.asdu.proofs.entry.time_at.Tie as tie
+use Rattle.asdu.proofs.entry.time_of.Statement.{statement}
+use Rattle.asdu.proofs.entry.time_of.Tie as tie
 
-pub time-at-spec : {M : Type 1} → statement M
+pub time-of-spec : {M : Type 1} → statement M
 unfolding timeAt
-time-at-spec =
+time-of-spec =
     tie.close
     (tie.spec
     (λ c. search needs)
@@ -14,21 +13,14 @@ time-at-spec =
     (λ c. search needs)
     (λ c. search needs)
     (λ c. search needs)
-    (λ c. search needs)
-    (λ c. search needs)
-    (λ c. search needs)
-    (λ c. search needs)
     (λ c κs. search needs)
     (λ c κs. search needs)
     (λ c κs. search needs)
     (λ c κs. search needs)
-    (λ c. search needs)
-    (λ c. search needs)
     (λ c. search needs)
     (λ c. search needs)
     (λ c.
     simp (
-      whens,
       ← (c .before .before .has-bit3 .ensures),
       ← (c .before .before .before .has-bit2 .ensures),
       ← (c .before .before .before .before .has-bit .ensures),
