@@ -1,5 +1,5 @@
 use Rattle.laws.proofs.Decide.{whens}
-use borrow.Author.Tests.{le-leb, lt-leb, lt-ltb, le-ltb}
+use borrow.Author.Tests.{le-leb, lt-leb}
 use Rattle.frame.specs.Frames.{isFileType}
 use Rattle.frame.proofs.is_file_type.Statement.{statement}
 use Rattle.frame.proofs.is_file_type.Tie as tie
@@ -9,5 +9,5 @@ unfolding isFileType
 is-file-type-spec =
     tie.close
     (tie.spec
-    (λ c. simp (whens, le-leb _ _ (c .if1 .taken), le-ltb _ _ (c .if1 .taken)))
-    (λ c. simp (whens, lt-ltb _ _ (c .if1 .left), lt-leb _ _ (c .if1 .left))))
+    (λ c. simp (whens, le-leb _ _ (c .if1 .taken)))
+    (λ c. simp (whens, lt-leb _ _ (c .if1 .left))))

@@ -1,6 +1,6 @@
 use Rattle.laws.proofs.Decide.{whens}
 use borrow.Author.Needs.{needs}
-use borrow.Author.Tests.{le-leb, lt-leb, lt-ltb, le-ltb}
+use borrow.Author.Tests.{le-leb, lt-leb}
 use Rattle.makers.specs.Makers.{segmentMade}
 use Rattle.makers.proofs.segment.Statement.{statement}
 use Rattle.makers.proofs.segment.Tie as tie
@@ -10,16 +10,8 @@ unfolding segmentMade
 segment-spec =
     tie.close
     (tie.spec
-    (λ c. simp (whens, lt-ltb _ _ (c .if1 .taken), lt-leb _ _ (c .if1 .taken)))
-    (λ c. simp (whens, lt-ltb _ _ (c .if2 .taken), lt-leb _ _ (c .if2 .taken), le-leb _ _ (c .before .if1 .left), le-ltb _ _ (c .before .if1 .left)))
+    (λ c. simp (whens, lt-leb _ _ (c .if1 .taken)))
+    (λ c. simp (whens, lt-leb _ _ (c .if2 .taken), le-leb _ _ (c .before .if1 .left)))
     (λ c. search needs)
     (λ c κs. search needs)
-    (λ c.
-    simp (
-      whens,
-      le-leb _ _ (c .before .if2 .left),
-      le-ltb _ _ (c .before .if2 .left),
-      le-leb _ _ (c .before .before .if1 .left),
-      le-ltb _ _ (c .before .before .if1 .left),
-      ← (c .frame-with .ensures),
-    )))
+    (λ c. simp (whens, le-leb _ _ (c .before .if2 .left), le-leb _ _ (c .before .before .if1 .left), ← (c .frame-with .ensures))))

@@ -20,12 +20,6 @@ is-page-spec =
       eq-eqb _ _ (c .before .before .before .if1 .taken),
       ← (c .is-clear .ensures),
     ))
-    (λ c.
-    simp (
-      whens,
-      lt-leb _ _ (c .if3 .left),
-      le-leb _ _ (c .before .if2 .taken),
-      eq-eqb _ _ (c .before .before .if1 .taken),
-    ))
+    (λ c. simp (whens, lt-leb _ _ (c .if3 .left), le-leb _ _ (c .before .if2 .taken), eq-eqb _ _ (c .before .before .if1 .taken)))
     (λ c. simp (whens, lt-leb _ _ (c .if2 .left), eq-eqb _ _ (c .before .if1 .taken)))
     (λ c. simp (whens, ne-eqb _ _ (c .if1 .left))))

@@ -1,6 +1,6 @@
 use Rattle.laws.proofs.Decide.{whens, yes, nay}
 use borrow.Author.Needs.{needs}
-use borrow.Author.Tests.{eq-eqb, ne-eqb, le-leb, lt-leb, lt-ltb, le-ltb}
+use borrow.Author.Tests.{eq-eqb, ne-eqb, le-leb, lt-leb}
 use Rattle.ft.specs.Admission.{frameAgrees}
 use Rattle.ft.proofs.admit.agrees.Statement.{statement}
 use Rattle.ft.proofs.admit.agrees.Tie as tie
@@ -12,7 +12,7 @@ agrees-spec =
     (tie.spec
     (λ c κs. search needs)
     (λ c κs. search needs)
-    (λ c. simp (whens, lt-ltb _ _ (c .if1 .taken), lt-leb _ _ (c .if1 .taken), ← (c .before .ioa .ensures), ← (c .before .before .max-ioa .ensures)))
+    (λ c. simp (whens, lt-leb _ _ (c .if1 .taken), ← (c .before .ioa .ensures), ← (c .before .before .max-ioa .ensures)))
     (λ c κs. search needs)
     (λ c κs. search needs)
     (λ c κs. search needs)
@@ -22,7 +22,6 @@ agrees-spec =
       eq-eqb _ _ (c .before .before .before .if3 .taken),
       yes (c .before .before .before .before .before .before .before .is-in-range .ensures) (c .before .before .before .before .before .before .if2 .taken),
       le-leb _ _ (c .before .before .before .before .before .before .before .before .if1 .left),
-      le-ltb _ _ (c .before .before .before .before .before .before .before .before .if1 .left),
       ← (c .before .before .cause .ensures),
       ← (c .before .before .before .before .before .type-id .ensures),
       ← (c .before .before .before .before .before .before .before .before .before .ioa .ensures),
@@ -34,7 +33,6 @@ agrees-spec =
       ne-eqb _ _ (c .if3 .left),
       yes (c .before .before .before .before .is-in-range .ensures) (c .before .before .before .if2 .taken),
       le-leb _ _ (c .before .before .before .before .before .if1 .left),
-      le-ltb _ _ (c .before .before .before .before .before .if1 .left),
       ← (c .before .before .type-id .ensures),
       ← (c .before .before .before .before .before .before .ioa .ensures),
       ← (c .before .before .before .before .before .before .before .max-ioa .ensures),
@@ -44,7 +42,6 @@ agrees-spec =
       whens,
       nay (c .before .is-in-range .ensures) (c .if2 .left),
       le-leb _ _ (c .before .before .if1 .left),
-      le-ltb _ _ (c .before .before .if1 .left),
       ← (c .before .before .before .ioa .ensures),
       ← (c .before .before .before .before .max-ioa .ensures),
     )))

@@ -1,5 +1,3 @@
-use Rattle.laws.proofs.Decide.{decide}
-use native.Mathlib.Omega.{arith}
 use borrow.Author.Needs.{needs}
 use Rattle.asdu.proofs.error.FtError.number.Statement.{statement}
 use Rattle.asdu.proofs.error.FtError.number.Tie as tie

@@ -1,7 +1,5 @@
 use Rattle.laws.proofs.Decide.{decide}
 use Rattle.asdu.specs.Elements.{scqInRange}
-use borrow.Author.Needs.{needs}
-use native.Mathlib.Omega.{arith}
 use Rattle.asdu.proofs.file.Scq.is_in_range.Statement.{statement}
 use Rattle.asdu.proofs.file.Scq.is_in_range.Tie as tie
 

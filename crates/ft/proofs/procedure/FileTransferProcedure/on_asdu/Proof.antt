@@ -1,6 +1,6 @@
 use Rattle.laws.proofs.Decide.{whens, yes, nay, yes-by-not, nay-by-not}
 use borrow.Author.Needs.{needs}
-use borrow.Author.Tests.{eq-eqb, ne-eqb, le-leb, lt-leb, lt-ltb, le-ltb}
+use borrow.Author.Tests.{eq-eqb, ne-eqb, le-leb, lt-leb}
 use Rattle.ft.specs.Admission.{onAsdu}
 use Rattle.ft.proofs.procedure.FileTransferProcedure.on_asdu.Statement.{statement}
 use Rattle.ft.proofs.procedure.FileTransferProcedure.on_asdu.Tie as tie
@@ -16,7 +16,6 @@ on-asdu-spec =
     (λ c.
     simp (
       whens,
-      lt-ltb _ _ (c .if2 .taken),
       lt-leb _ _ (c .if2 .taken),
       yes-by-not (c .before .before .before .is-settled .ensures) (c .before .before .if1 .left),
       ← (c .before .before .before .before .broadcast-common-address .ensures),
@@ -27,7 +26,6 @@ on-asdu-spec =
       whens,
       nay-by-not (c .before .is-file-type .ensures) (c .if3 .taken),
       le-leb _ _ (c .before .before .if2 .left),
-      le-ltb _ _ (c .before .before .if2 .left),
       yes-by-not (c .before .before .before .before .before .is-settled .ensures) (c .before .before .before .before .if1 .left),
       ← (c .before .before .before .before .before .before .broadcast-common-address .ensures),
     ))
@@ -39,7 +37,6 @@ on-asdu-spec =
       yes (c .before .before .is-mirror .ensures) (c .before .if4 .taken),
       yes-by-not (c .before .before .before .before .is-file-type .ensures) (c .before .before .before .if3 .left),
       le-leb _ _ (c .before .before .before .before .before .if2 .left),
-      le-ltb _ _ (c .before .before .before .before .before .if2 .left),
       yes-by-not (c .before .before .before .before .before .before .before .before .is-settled .ensures) (c .before .before .before .before .before .before .before .if1 .left),
       ← (c .on-mirror .ensures),
       ← (c .before .before .before .before .before .before .before .before .before .broadcast-common-address .ensures),
@@ -52,7 +49,6 @@ on-asdu-spec =
       nay (c .before .before .before .before .is-mirror .ensures) (c .before .before .before .if4 .left),
       yes-by-not (c .before .before .before .before .before .before .is-file-type .ensures) (c .before .before .before .before .before .if3 .left),
       le-leb _ _ (c .before .before .before .before .before .before .before .if2 .left),
-      le-ltb _ _ (c .before .before .before .before .before .before .before .if2 .left),
       yes-by-not (c .before .before .before .before .before .before .before .before .before .before .is-settled .ensures) (c .before .before .before .before .before .before .before .before .before .if1 .left),
       ← (c .unspecified .ensures),
       ← (c .before .before .before .before .before .before .before .before .before .before .before .broadcast-common-address .ensures),
@@ -65,7 +61,6 @@ on-asdu-spec =
       nay (c .before .before .before .before .is-mirror .ensures) (c .before .before .before .if4 .left),
       yes-by-not (c .before .before .before .before .before .before .is-file-type .ensures) (c .before .before .before .before .before .if3 .left),
       le-leb _ _ (c .before .before .before .before .before .before .before .if2 .left),
-      le-ltb _ _ (c .before .before .before .before .before .before .before .if2 .left),
       yes-by-not (c .before .before .before .before .before .before .before .before .before .before .is-settled .ensures) (c .before .before .before .before .before .before .before .before .before .if1 .left),
       ← (c .admit-known .ensures),
       ← (c .before .before .before .before .before .before .before .before .before .before .before .broadcast-common-address .ensures),

@@ -1,0 +1,195 @@
+// Checksums, lengths that follow from the widths, directions and packed entries.
+use crate::print;
+use asdu::entry::DirectoryEntry;
+use asdu::entry::EntryResult;
+use asdu::entry::Packed;
+use asdu::file::Chs;
+use asdu::file::Lof;
+use asdu::file::Nof;
+use asdu::file::Sof;
+use asdu::header::Direction;
+use asdu::sizes;
+use asdu::sizes::AddressSizes;
+use asdu::time::Cp56Time2a;
+use ft::checksum;
+use ft::checksum::ChecksumResult;
+use ft::direction;
+use ft::direction::Role;
+use ft::direction::Selection;
+
+fn stated(name: &[u8], octets: &[u8], sum: u8) {
+    match checksum::check_checksum(octets, Chs { value: sum }) {
+        ChecksumResult::Ok => print::words(name, b"equal"),
+        ChecksumResult::Err(e) => print::refusal(name, e),
+    }
+}
+
+pub fn checksums() {
+    print::line(b"checksum of nothing", checksum::checksum(&[]).value as u64);
+    print::line(
+        b"checksum of 200 100",
+        checksum::checksum(&[200, 100]).value as u64,
+    );
+    stated(b"200 100 stated 44", &[200, 100], 44);
+    stated(b"200 100 stated 45", &[200, 100], 45);
+}
+
+fn widths(cause: u8, common: u8, object: u8) -> AddressSizes {
+    AddressSizes {
+        cause_octets: cause,
+        common_address_octets: common,
+        information_object_address_octets: object,
+    }
+}
+
+pub fn limits() {
+    print::line(b"header with 2 2", widths(2, 2, 3).header_len() as u64);
+    print::line(b"header with 1 1", widths(1, 1, 1).header_len() as u64);
+    print::line(
+        b"segment limit 6 3",
+        sizes::max_segment(widths(2, 2, 3)) as u64,
+    );
+    print::line(
+        b"segment limit 4 1",
+        sizes::max_segment(widths(1, 1, 1)) as u64,
+    );
+    print::line(
+        b"page entries 6 3",
+        sizes::max_directory_files(widths(2, 2, 3)) as u64,
+    );
+    print::line(
+        b"page entries 4 1",
+        sizes::max_directory_files(widths(1, 1, 1)) as u64,
+    );
+}
+
+pub fn addresses() {
+    print::line(
+        b"broadcast in 1 octet",
+        widths(2, 1, 3).broadcast_common_address() as u64,
+    );
+    print::line(
+        b"broadcast in 2 octets",
+        widths(2, 2, 3).broadcast_common_address() as u64,
+    );
+    print::line(
+        b"largest object in 1 octet",
+        widths(2, 2, 1).max_ioa() as u64,
+    );
+    print::line(
+        b"largest object in 2 octets",
+        widths(2, 2, 2).max_ioa() as u64,
+    );
+    print::line(
+        b"largest object in 3 octets",
+        widths(2, 2, 3).max_ioa() as u64,
+    );
+}
+
+fn direction(name: &[u8], role: Role, receiver_side: bool) {
+    match direction::direction_for(role, receiver_side) {
+        Direction::Monitor => print::words(name, b"monitor"),
+        Direction::Control => print::words(name, b"control"),
+        Direction::Both => print::words(name, b"both"),
+    }
+}
+
+pub fn directions() {
+    direction(b"controlling, receiver side:", Role::Controlling, true);
+    direction(b"controlled, provider side:", Role::Controlled, false);
+    direction(b"controlling, provider side:", Role::Controlling, false);
+    direction(b"controlled, receiver side:", Role::Controlled, true);
+}
+
+fn selection(name: &[u8], s: Selection) {
+    print::text(name);
+    print::line(b" selects", s.count() as u64);
+}
+
+pub fn selections() {
+    selection(b"none", Selection::NONE);
+    selection(b"monitor", Selection::MONITOR);
+    selection(b"control", Selection::CONTROL);
+    selection(b"both", Selection::BOTH);
+    selection(
+        b"both less control",
+        Selection::BOTH.with(Direction::Control, false),
+    );
+}
+
+// 2026-11-15, a Sunday, 14:07:58.999 in summer time; every flag is set in one of the two octets that
+// have several.
+fn sample() -> DirectoryEntry {
+    DirectoryEntry {
+        nof: Nof { value: 0x0201 },
+        lof: Lof { value: 0x050403 },
+        sof: Sof {
+            status: 6,
+            last_file_of_directory: true,
+            name_defines_subdirectory: false,
+            transfer_active: true,
+        },
+        time: Cp56Time2a {
+            milliseconds: 58999,
+            minutes: 7,
+            substituted: true,
+            invalid: false,
+            hours: 14,
+            summer_time: true,
+            day_of_month: 15,
+            day_of_week: 7,
+            months: 11,
+            years: 26,
+        },
+    }
+}
+
+fn octets(buffer: &[u8; 13]) {
+    let mut i = 0;
+    while i < 13 {
+        print::text(b" ");
+        print::number(buffer[i] as u64);
+        i += 1;
+    }
+    print::text(b"\n");
+}
+
+fn packed(entry: DirectoryEntry) {
+    let mut buffer = [0u8; 13];
+    match entry.pack(&mut buffer) {
+        Packed::Ok => print::text(b"packed"),
+        Packed::Err(e) => print::refusal(b"packed", e),
+    }
+    octets(&buffer);
+}
+
+fn unpacked(name: &[u8], octets: &[u8]) {
+    match DirectoryEntry::unpack(octets) {
+        EntryResult::Ok(e) => print::line(name, e.lof.value as u64),
+        EntryResult::Err(e) => print::refusal(name, e),
+    }
+}
+
+pub fn entries() {
+    packed(sample());
+    unpacked(
+        b"unpacked length",
+        &[1, 2, 3, 4, 5, 166, 119, 230, 71, 142, 239, 11, 26],
+    );
+    unpacked(
+        b"hours with bit 5",
+        &[1, 2, 3, 4, 5, 166, 119, 230, 71, 174, 239, 11, 26],
+    );
+    unpacked(
+        b"month with bit 4",
+        &[1, 2, 3, 4, 5, 166, 119, 230, 71, 142, 239, 27, 26],
+    );
+    unpacked(
+        b"year with bit 7",
+        &[1, 2, 3, 4, 5, 166, 119, 230, 71, 142, 239, 11, 154],
+    );
+    unpacked(
+        b"twelve octets",
+        &[1, 2, 3, 4, 5, 166, 119, 230, 71, 142, 239, 11],
+    );
+}
