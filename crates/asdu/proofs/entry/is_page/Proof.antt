@@ -18,7 +18,7 @@ is-page-spec =
       le-leb _ _ (c .before .if3 .taken),
       le-leb _ _ (c .before .before .if2 .taken),
       eq-eqb _ _ (c .before .before .before .if1 .taken),
-      ← (c .is-clear .ensures),
+      ← (c .are-clear .ensures),
     ))
     (λ c.
     simp (

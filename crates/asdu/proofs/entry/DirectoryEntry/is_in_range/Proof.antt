@@ -25,8 +25,4 @@ is-in-range-spec =
       nay (c .before .is-in-range2 .ensures) (c .if2 .left),
       yes (c .before .before .before .is-in-range .ensures) (c .before .before .if1 .taken),
     ))
-    (λ c.
-    simp (
-      whens,
-      nay (c .before .is-in-range .ensures) (c .if1 .left),
-    )))
+    (λ c. simp (whens, nay (c .before .is-in-range .ensures) (c .if1 .left))))
