@@ -116,6 +116,7 @@ module _ (e : DirectoryEntry) (h : entryInRange e ≡ true) where
       let year : t .years / 128 ≡ 0 = omega arith in
       simp (hours-back t f (t .hours + flag 128 (t .«summer_time»)) refl .2, month, year, whens)
 
+-- names and milliseconds come back at any size, not only below the code's 65536
 pub unpack-pack : (e : DirectoryEntry) → entryInRange e ≡ true → unpacked (entryOctets e) ≡ Ok e
 unfolding unpacked
 unpack-pack e h = simp (thirteen e, clear-back e h, whens, entry-back e h)
@@ -219,6 +220,7 @@ module _ (o : List ℕ) (long : length o ≡ 13) (clear : reservedClear o ≡ tr
         le-leb (at 12 % 128) 127 (omega arith),
       )
 
+-- of octets, which are numbers below 256
 pub pack-unpack : (o : List ℕ) (e : DirectoryEntry) → ((i : ℕ) → getD o i 0 < 256) → unpacked o ≡ Ok e → (entryOctets e ≡ o) × (entryInRange e ≡ true)
 unfolding unpacked
 pack-unpack o e small h = go (eqb (length o) 13 and reservedClear o) refl

@@ -1,8 +1,7 @@
 -- What it is in numbers that a time or an entry is in range.
 use mathlib.Core.Bool.{Bool, true, false}
 use mathlib.Core.Path.{_≡_, refl}
-use Prim.Native.Nat.{ℕ, _≤_}
-use lib.Dec.{leb}
+use Prim.Native.Nat.{_≤_}
 use borrow.Author.Tests.{leb-true}
 use Rattle.laws.specs.When.{when, _and_}
 use Rattle.asdu.specs.Time.{timeInRange}
@@ -10,6 +9,7 @@ use Rattle.asdu.specs.Entry.{entryInRange}
 use Rattle.asdu.specs.declared.time.Cp56Time2a.{Cp56Time2a}
 use Rattle.asdu.specs.declared.entry.DirectoryEntry.{DirectoryEntry}
 
+-- two tests that hold together
 pub both : (a b : Bool) → (a and b) ≡ true → (a ≡ true) × (b ≡ true)
 unfolding when
 both true b e = (refl, e)

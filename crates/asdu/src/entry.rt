@@ -7,7 +7,7 @@ use crate::time::Cp56Time2a;
 ghost use mathlib.Core.Path.{_≡_};
 ghost use mathlib.Core.Bool.{true};
 ghost use Prim.Native.Nat.{_+_, _*_, _/_, _%_, _<_, _≤_};
-ghost use lib.ListN.{length, take, drop};
+ghost use lib.ListN.{length};
 ghost use lib.Seq.{sets};
 ghost use Rattle.asdu.specs.Time.{timeInRange};
 ghost use Rattle.asdu.specs.Entry.{entryInRange, flag, sofOctet, timeOctets, entryOctets, bitOf, sofOf, timeAt, entryOf, reservedClear, packAnswer, packInto, unpacked, allClear, pageRight};
@@ -37,18 +37,16 @@ impl DirectoryEntry {
     pub fn is_in_range(self) -> bool
         ensures { λ r. ⌜ r ≡ entryInRange self ⌝ }
     {
-        let lof = self.lof;
-        let sof = self.sof;
-        let time = self.time;
-        if lof.is_in_range() {
-            if sof.is_in_range() {
-                return time.is_in_range();
+        if self.lof.is_in_range() {
+            if self.sof.is_in_range() {
+                return self.time.is_in_range();
             }
         }
         false
     }
 
-    // Writes the entry's octets, or changes nothing and answers 4.
+    // Writes the entry's octets; where it is out of range, or the place is not 13 long, writes
+    // nothing and answers 4.
     pub fn pack(self, out: &mut [u8]) -> Packed
         ensures { λ r. ⌜ (r ≡ packAnswer self (now (out .entry))) × (now (out .exit) ≡ packInto self (now (out .entry))) ⌝ }
     {
@@ -61,12 +59,12 @@ impl DirectoryEntry {
         Packed::Err(FtError::ValueOutOfRange)
     }
 
-    // The entry that 13 octets carry, or 4 where a reserved bit is set.
+    // The entry that the octets carry; 4 where they are not 13, or a reserved bit is set.
     pub fn unpack(octets: &[u8]) -> EntryResult
         ensures { λ r. ⌜ r ≡ unpacked (now (octets .entry)) ⌝ }
     {
         if octets.len() == DirectoryEntry::LEN {
-            if is_clear_at(octets, 0) {
+            if is_clear(octets) {
                 return EntryResult::Ok(entry_of(octets));
             }
         }
@@ -76,25 +74,28 @@ impl DirectoryEntry {
 
 // ---- Entry to octets
 
+// Of a number's two octets the lower, which goes first.
 fn low_octet(x: u16) -> u8
     ensures { λ r. ⌜ r ≡ x % 256 ⌝ }
 {
     (x % 256) as u8
 }
 
+// Of a number's two octets the higher.
 fn high_octet(x: u16) -> u8
     ensures { λ r. ⌜ r ≡ x / 256 ⌝ }
 {
     (x / 256) as u8
 }
 
-// A flag's weight in its octet, where it is set.
+// What a flag adds to its octet: its bit's weight where it is set.
 fn weight_of(weight: u8, b: bool) -> u8
     ensures { λ r. ⌜ (r ≡ flag weight b) × (r ≤ weight) ⌝ }
 {
     if b { weight } else { 0 }
 }
 
+// The status, and the three flags above it.
 fn sof_octet(sof: Sof) -> u8
     requires { ⌜ sof .status ≤ 31 ⌝ }
     ensures { λ r. ⌜ r ≡ sofOctet sof ⌝ }
@@ -105,6 +106,7 @@ fn sof_octet(sof: Sof) -> u8
         + weight_of(128, sof.transfer_active)
 }
 
+// The minutes, and the two flags above them.
 fn minutes_octet(time: Cp56Time2a) -> u8
     requires { ⌜ time .minutes ≤ 63 ⌝ }
     ensures { λ r. ⌜ r ≡ time .minutes + flag 64 (time .substituted) + flag 128 (time .invalid) ⌝ }
@@ -112,7 +114,7 @@ fn minutes_octet(time: Cp56Time2a) -> u8
     time.minutes + weight_of(64, time.substituted) + weight_of(128, time.invalid)
 }
 
-// The time's octets, in the places from 6 on.
+// Writes the time's octets to the places from 6 on.
 fn write_time(time: Cp56Time2a, out: &mut [u8])
     requires { ⌜ (timeInRange time ≡ true) × (length (now out) ≡ 13) ⌝ }
     ensures { λ _. ⌜ now (out .exit) ≡ sets (now (out .entry)) 6 (timeOctets time) ⌝ }
@@ -126,36 +128,38 @@ fn write_time(time: Cp56Time2a, out: &mut [u8])
     out[12] = time.years;
 }
 
+// Writes all 13 octets.
 fn write_entry(entry: DirectoryEntry, out: &mut [u8])
     requires { ⌜ (entryInRange entry ≡ true) × (length (now out) ≡ 13) ⌝ }
     ensures { λ _. ⌜ now (out .exit) ≡ entryOctets entry ⌝ }
 {
     let lof = entry.lof.value;
-    let sof = entry.sof;
-    let time = entry.time;
     out[0] = low_octet(entry.nof.value);
     out[1] = high_octet(entry.nof.value);
     out[2] = (lof % 256) as u8;
     out[3] = (lof / 256 % 256) as u8;
     out[4] = (lof / 65536) as u8;
-    out[5] = sof_octet(sof);
-    write_time(time, out);
+    out[5] = sof_octet(entry.sof);
+    write_time(entry.time, out);
 }
 
 // ---- Octets to entry
 
+// The number of two octets, the lower first.
 fn two_octets(low: u8, high: u8) -> u16
     ensures { λ r. ⌜ r ≡ low + 256 * high ⌝ }
 {
     low as u16 + 256 * (high as u16)
 }
 
+// The number of three octets, the lowest first.
 fn three_octets(low: u8, middle: u8, high: u8) -> u32
     ensures { λ r. ⌜ r ≡ low + 256 * middle + 65536 * high ⌝ }
 {
     low as u32 + 256 * (middle as u32) + 65536 * (high as u32)
 }
 
+// Whether the bit of this weight is set.
 fn has_bit(weight: u8, octet: u8) -> bool
     requires { ⌜ 0 < weight ⌝ }
     ensures { λ r. ⌜ r ≡ bitOf weight octet ⌝ }
@@ -163,6 +167,7 @@ fn has_bit(weight: u8, octet: u8) -> bool
     octet / weight % 2 == 1
 }
 
+// The status and flags in their octet.
 fn sof_of(octet: u8) -> Sof
     ensures { λ r. ⌜ r ≡ sofOf octet ⌝ }
 {
@@ -196,6 +201,7 @@ fn time_of(octets: &[u8]) -> Cp56Time2a
     }
 }
 
+// The entry in 13 octets.
 fn entry_of(octets: &[u8]) -> DirectoryEntry
     requires { ⌜ length (now octets) ≡ 13 ⌝ }
     ensures { λ r. ⌜ r ≡ entryOf (now (octets .entry)) ⌝ }
@@ -212,27 +218,29 @@ fn entry_of(octets: &[u8]) -> DirectoryEntry
     }
 }
 
-// Whether the reserved bits are 0 in the entry that begins at this place.
-fn is_clear_at(octets: &[u8], at: usize) -> bool
-    requires { ⌜ at + 13 ≤ length (now octets) ⌝ }
-    ensures { λ r. ⌜ r ≡ reservedClear (take 13 (drop at (now (octets .entry)))) ⌝ }
+// ---- Reserved bits
+
+// Whether the reserved bits are 0 in the entry that these octets begin with.
+fn is_clear(octets: &[u8]) -> bool
+    requires { ⌜ 13 ≤ length (now octets) ⌝ }
+    ensures { λ r. ⌜ r ≡ reservedClear (now (octets .entry)) ⌝ }
 {
-    if octets[at + 9] / 32 % 4 == 0 {
-        if octets[at + 11] / 16 == 0 {
-            return octets[at + 12] / 128 == 0;
+    if octets[9] / 32 % 4 == 0 {
+        if octets[11] / 16 == 0 {
+            return octets[12] / 128 == 0;
         }
     }
     false
 }
 
 // Whether the reserved bits are 0 in every whole entry.
-fn is_clear(octets: &[u8]) -> bool
+fn are_clear(octets: &[u8]) -> bool
     ensures { λ r. ⌜ r ≡ allClear (length (now (octets .entry)) / 13) (now (octets .entry)) ⌝ }
 {
     let mut left = octets.len() / DirectoryEntry::LEN;
     let mut at = 0;
     while 0 < left {
-        if !is_clear_at(octets, at) {
+        if !is_clear(&octets[at..]) {
             return false;
         }
         at += DirectoryEntry::LEN;
@@ -249,7 +257,7 @@ pub fn is_page(octets: &[u8]) -> bool
     if octets.len() % DirectoryEntry::LEN == 0 {
         if 1 <= entries {
             if entries <= 18 {
-                return is_clear(octets);
+                return are_clear(octets);
             }
         }
     }

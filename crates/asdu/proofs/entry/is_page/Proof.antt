@@ -18,7 +18,7 @@ is-page-spec =
       le-leb _ _ (c .before .if3 .taken),
       le-leb _ _ (c .before .before .if2 .taken),
       eq-eqb _ _ (c .before .before .before .if1 .taken),
-      ← (c .is-clear .ensures),
+      ← (c .are-clear .ensures),
     ))
     (λ c. simp (whens, lt-leb _ _ (c .if3 .left), le-leb _ _ (c .before .if2 .taken), eq-eqb _ _ (c .before .before .if1 .taken)))
     (λ c. simp (whens, lt-leb _ _ (c .if2 .left), eq-eqb _ _ (c .before .if1 .taken)))

@@ -14,7 +14,7 @@ unfolding entryOctets
 returns c =
     let w = c .before .before in
     let s = w .before .before in
-    let a = s .before .before .before .before .before .before .args in
+    let a = s .before .before .before .before .args in
     w .write-time .ensures
     ∙ simp (s .sof-octet .ensures, s .before .high-octet .ensures, s .before .before .low-octet .ensures)
     (all-stored (a .out .now) (entryOctets (a .entry)) (thirteen (a .entry) ∙ omega arith))
@@ -31,10 +31,10 @@ write-entry-spec =
     (λ c. search needs)
     (λ c. search needs)
     (λ c. search needs)
-    (λ c. let f = entry-fits _ (c .before .before .before .before .before .pre .0) in omega arith)
+    (λ c. let f = entry-fits _ (c .before .before .before .pre .0) in omega arith)
     (λ c. simp length-set (omega arith))
-    (λ c κs. let f = entry-fits _ (c .before .before .before .before .before .pre .0) in omega arith)
+    (λ c κs. let f = entry-fits _ (c .before .before .before .pre .0) in omega arith)
     (λ c. simp length-set (omega arith))
-    (λ c κs. (entry-fits _ (c .before .before .before .before .before .before .before .pre .0) .time, simp length-set (omega arith)))
+    (λ c κs. (entry-fits _ (c .before .before .before .before .before .pre .0) .time, simp length-set (omega arith)))
     (λ c. simp (c .before .before .write-time .ensures, length-sets, length-set))
     returns)

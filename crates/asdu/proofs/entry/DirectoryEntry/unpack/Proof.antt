@@ -1,9 +1,7 @@
-use mathlib.Core.Path.{_∙_}
 use Rattle.laws.proofs.Decide.{whens, yes, nay}
 use borrow.Author.Needs.{needs}
 use borrow.Author.Tests.{eq-eqb, ne-eqb}
 use Rattle.asdu.specs.Entry.{unpacked}
-use Rattle.asdu.proofs.Page.{clear-whole}
 use Rattle.asdu.proofs.entry.DirectoryEntry.unpack.Statement.{statement}
 use Rattle.asdu.proofs.entry.DirectoryEntry.unpack.Tie as tie
 
@@ -17,9 +15,9 @@ unpack-spec =
     (λ c.
     simp (
       whens,
-      yes (c .before .before .is-clear-at .ensures ∙ clear-whole (c .before .before .before .before .before .args .octets .now) (c .before .before .before .if1 .taken)) (c .before .if2 .taken),
+      yes (c .before .before .is-clear .ensures) (c .before .if2 .taken),
       eq-eqb _ _ (c .before .before .before .if1 .taken),
       ← (c .entry-of .ensures),
     ))
-    (λ c. simp (whens, nay (c .before .is-clear-at .ensures ∙ clear-whole (c .before .before .before .before .args .octets .now) (c .before .before .if1 .taken)) (c .if2 .left), eq-eqb _ _ (c .before .before .if1 .taken)))
+    (λ c. simp (whens, nay (c .before .is-clear .ensures) (c .if2 .left), eq-eqb _ _ (c .before .before .if1 .taken)))
     (λ c. simp (whens, ne-eqb _ _ (c .if1 .left))))
