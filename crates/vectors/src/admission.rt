@@ -17,10 +17,10 @@ use ft::direction::Role;
 use ft::direction::Selection;
 use ft::procedure::FileTransferProcedure;
 
-fn station(role: Role, selection: Selection, common: u8) -> FileTransferProcedure {
+fn station(role: Role, monitor: bool, control: bool, common: u8) -> FileTransferProcedure {
     FileTransferProcedure {
         role,
-        selection,
+        selection: Selection { monitor, control },
         ca: 1,
         org: 0,
         sizes: AddressSizes {
@@ -31,17 +31,17 @@ fn station(role: Role, selection: Selection, common: u8) -> FileTransferProcedur
     }
 }
 
-pub fn header(type_id: u8, cause: u8) -> Header {
+fn header(type_id: u8, cause: u8, negative: bool, ca: u16) -> Header {
     Header {
         type_id,
         cause: Cause { value: cause },
-        negative: false,
+        negative,
         originator: 0,
-        common_address: 1,
+        common_address: ca,
     }
 }
 
-pub fn select() -> Frame {
+fn select() -> Frame {
     Frame::Sc {
         ioa: 100,
         nof: Nof { value: 7 },
@@ -53,10 +53,10 @@ pub fn select() -> Frame {
     }
 }
 
-pub fn file_ready(ioa: u32, nof: u16) -> Frame {
+fn file_ready(ioa: u32) -> Frame {
     Frame::FileReady {
         ioa,
-        nof: Nof { value: nof },
+        nof: Nof { value: 7 },
         lof: Lof { value: 2 },
         frq: Frq {
             value: 0,
@@ -65,11 +65,10 @@ pub fn file_ready(ioa: u32, nof: u16) -> Frame {
     }
 }
 
-// A select file, handed to a controlled station under this common address.
-fn at_address(name: &[u8], common: u8, ca: u16) {
-    let mut h = header(122, 13);
-    h.common_address = ca;
-    let p = station(Role::Controlled, Selection::BOTH, common);
+// A select file, handed to a controlled station with a common address of so many octets.
+fn at_address(name: &[u8], octets: u8, ca: u16) {
+    let p = station(Role::Controlled, true, true, octets);
+    let h = header(122, 13, false, ca);
     let r = p.on_asdu(h, UnknownField::Nothing, Received::Frame(select()), &[]);
     print::reaction(name, r);
 }
@@ -84,115 +83,80 @@ pub fn addresses() {
     at_address(b"widths of no making, common address 256", 0, 256);
 }
 
-// What a station makes of a header alone: the frame behind it is undecodable.
-fn by_header(name: &[u8], role: Role, selection: Selection, h: Header) {
-    let p = station(role, selection, 2);
+// What a station that uses the monitor direction, or both, makes of a header alone: what stands behind
+// it is undecodable.
+fn by_header(name: &[u8], role: Role, both: bool, type_id: u8, cause: u8, negative: bool, ca: u16) {
+    let p = station(role, true, both, 2);
+    let h = header(type_id, cause, negative, ca);
     let r = p.on_asdu(h, UnknownField::Nothing, Received::Undecodable, &[]);
     print::reaction(name, r);
 }
 
 pub fn types() {
-    by_header(
-        b"type 119",
-        Role::Controlled,
-        Selection::BOTH,
-        header(119, 13),
-    );
-    by_header(
-        b"type 120",
-        Role::Controlled,
-        Selection::BOTH,
-        header(120, 13),
-    );
-    by_header(
-        b"type 127",
-        Role::Controlled,
-        Selection::BOTH,
-        header(127, 13),
-    );
-    by_header(
-        b"type 128",
-        Role::Controlled,
-        Selection::BOTH,
-        header(128, 13),
-    );
-}
-
-fn negative(type_id: u8, cause: u8, ca: u16) -> Header {
-    let mut h = header(type_id, cause);
-    h.negative = true;
-    h.common_address = ca;
-    h
+    by_header(b"type 119", Role::Controlled, true, 119, 13, false, 1);
+    by_header(b"type 120", Role::Controlled, true, 120, 13, false, 1);
+    by_header(b"type 127", Role::Controlled, true, 127, 13, false, 1);
+    by_header(b"type 128", Role::Controlled, true, 128, 13, false, 1);
 }
 
 pub fn mirrors() {
-    by_header(
-        b"mirror 43",
-        Role::Controlling,
-        Selection::MONITOR,
-        negative(122, 43, 1),
-    );
-    by_header(
-        b"mirror 44",
-        Role::Controlling,
-        Selection::MONITOR,
-        negative(122, 44, 1),
-    );
-    by_header(
-        b"mirror 47",
-        Role::Controlling,
-        Selection::MONITOR,
-        negative(122, 47, 1),
-    );
-    by_header(
-        b"mirror 48",
-        Role::Controlling,
-        Selection::MONITOR,
-        negative(122, 48, 1),
-    );
+    by_header(b"mirror 43", Role::Controlling, false, 122, 43, true, 1);
+    by_header(b"mirror 44", Role::Controlling, false, 122, 44, true, 1);
+    by_header(b"mirror 47", Role::Controlling, false, 122, 47, true, 1);
+    by_header(b"mirror 48", Role::Controlling, false, 122, 48, true, 1);
     by_header(
         b"cause 44, positive",
         Role::Controlling,
-        Selection::MONITOR,
-        header(122, 44),
+        false,
+        122,
+        44,
+        false,
+        1,
     );
     by_header(
         b"mirror of a type not sent",
         Role::Controlling,
-        Selection::MONITOR,
-        negative(120, 44, 1),
+        false,
+        120,
+        44,
+        true,
+        1,
     );
     by_header(
         b"mirror to all",
         Role::Controlled,
-        Selection::BOTH,
-        negative(120, 44, 65535),
+        true,
+        120,
+        44,
+        true,
+        65535,
     );
-}
-
-fn to_all(type_id: u8) -> Header {
-    let mut h = header(type_id, 13);
-    h.common_address = 65535;
-    h
 }
 
 pub fn broadcasts() {
     by_header(
         b"to all, controlled",
         Role::Controlled,
-        Selection::BOTH,
-        to_all(122),
+        true,
+        122,
+        13,
+        false,
+        65535,
     );
     by_header(
         b"to all, controlling",
         Role::Controlling,
-        Selection::BOTH,
-        to_all(120),
+        true,
+        120,
+        13,
+        false,
+        65535,
     );
 }
 
-fn not_known(name: &[u8], role: Role, h: Header, which: Unspecified) {
-    let p = station(role, Selection::BOTH, 2);
+fn not_known(name: &[u8], role: Role, type_id: u8, ca: u16, which: Unspecified) {
+    let p = station(role, true, true, 2);
+    let h = header(type_id, 13, false, ca);
     let r = p.on_asdu(h, UnknownField::First(which), Received::Undecodable, &[]);
     print::reaction(name, r);
 }
@@ -201,94 +165,94 @@ pub fn unknowns() {
     not_known(
         b"unknown type, controlled",
         Role::Controlled,
-        header(122, 13),
+        122,
+        1,
         Unspecified::TypeIdentification,
     );
     not_known(
         b"unknown cause, controlled",
         Role::Controlled,
-        header(122, 13),
+        122,
+        1,
         Unspecified::Cause,
     );
     not_known(
         b"unknown common address, controlled",
         Role::Controlled,
-        header(122, 13),
+        122,
+        1,
         Unspecified::CommonAddress,
     );
     not_known(
         b"unknown object address, controlled",
         Role::Controlled,
-        header(122, 13),
+        122,
+        1,
         Unspecified::InformationObjectAddress,
     );
     not_known(
         b"unknown type, controlling",
         Role::Controlling,
-        header(120, 13),
+        120,
+        1,
         Unspecified::TypeIdentification,
     );
     not_known(
         b"unknown object address, controlling",
         Role::Controlling,
-        header(120, 13),
+        120,
+        1,
         Unspecified::InformationObjectAddress,
     );
     not_known(
         b"unknown type, to all",
         Role::Controlled,
-        to_all(122),
+        122,
+        65535,
         Unspecified::TypeIdentification,
     );
 }
 
-// A frame, handed to a controlling station that uses the monitor direction.
-fn value(name: &[u8], h: Header, frame: Frame) {
-    let p = station(Role::Controlling, Selection::MONITOR, 2);
-    let r = p.on_asdu(h, UnknownField::Nothing, Received::Frame(frame), &[]);
+// A file ready, handed to a controlling station that uses the monitor direction.
+fn value(name: &[u8], type_id: u8, cause: u8, ioa: u32) {
+    let p = station(Role::Controlling, true, false, 2);
+    let h = header(type_id, cause, false, 1);
+    let r = p.on_asdu(
+        h,
+        UnknownField::Nothing,
+        Received::Frame(file_ready(ioa)),
+        &[],
+    );
     print::reaction(name, r);
 }
 
 pub fn values() {
-    value(
-        b"object address 16777215",
-        header(120, 13),
-        file_ready(16777215, 7),
-    );
-    value(
-        b"object address 16777216",
-        header(120, 13),
-        file_ready(16777216, 7),
-    );
-    value(b"kind unlike the type", header(121, 13), file_ready(100, 7));
-    value(
-        b"cause unlike the frame's",
-        header(120, 5),
-        file_ready(100, 7),
-    );
+    value(b"object address 16777215", 120, 13, 16777215);
+    value(b"object address 16777216", 120, 13, 16777216);
+    value(b"kind unlike the type", 121, 13, 100);
+    value(b"cause unlike the frame's", 120, 5, 100);
     by_header(
         b"undecodable before the cause",
         Role::Controlling,
-        Selection::MONITOR,
-        header(125, 3),
+        false,
+        125,
+        3,
+        false,
+        1,
     );
 }
 
 // A segment with a payload beside it.
 fn length(name: &[u8], los: u8, payload: &[u8]) {
-    let p = station(Role::Controlling, Selection::MONITOR, 2);
+    let p = station(Role::Controlling, true, false, 2);
     let frame = Frame::Segment {
         ioa: 100,
         nof: Nof { value: 7 },
         nos: Nos { value: 1 },
         los: Los { value: los },
     };
-    let r = p.on_asdu(
-        header(125, 13),
-        UnknownField::Nothing,
-        Received::Frame(frame),
-        payload,
-    );
+    let h = header(125, 13, false, 1);
+    let r = p.on_asdu(h, UnknownField::Nothing, Received::Frame(frame), payload);
     print::reaction(name, r);
 }
 
@@ -300,53 +264,30 @@ pub fn lengths() {
     length(b"segment 237 with 237", 237, &[1; 237]);
 }
 
-fn way(name: &[u8], role: Role, selection: Selection, h: Header, frame: Frame) {
-    let p = station(role, selection, 2);
-    let r = p.on_asdu(h, UnknownField::Nothing, Received::Frame(frame), &[]);
+fn request_to(name: &[u8], monitor: bool, control: bool) {
+    let p = station(Role::Controlled, monitor, control, 2);
+    let h = header(122, 13, false, 1);
+    let r = p.on_asdu(h, UnknownField::Nothing, Received::Frame(select()), &[]);
+    print::reaction(name, r);
+}
+
+fn answer_to(name: &[u8], monitor: bool, control: bool) {
+    let p = station(Role::Controlling, monitor, control, 2);
+    let h = header(120, 13, false, 1);
+    let r = p.on_asdu(
+        h,
+        UnknownField::Nothing,
+        Received::Frame(file_ready(100)),
+        &[],
+    );
     print::reaction(name, r);
 }
 
 pub fn directions() {
-    way(
-        b"request, controlled, monitor",
-        Role::Controlled,
-        Selection::MONITOR,
-        header(122, 13),
-        select(),
-    );
-    way(
-        b"request, controlled, control",
-        Role::Controlled,
-        Selection::CONTROL,
-        header(122, 13),
-        select(),
-    );
-    way(
-        b"request, controlled, none",
-        Role::Controlled,
-        Selection::NONE,
-        header(122, 13),
-        select(),
-    );
-    way(
-        b"answer, controlling, monitor",
-        Role::Controlling,
-        Selection::MONITOR,
-        header(120, 13),
-        file_ready(100, 7),
-    );
-    way(
-        b"answer, controlling, control",
-        Role::Controlling,
-        Selection::CONTROL,
-        header(120, 13),
-        file_ready(100, 7),
-    );
-    way(
-        b"answer, controlling, none",
-        Role::Controlling,
-        Selection::NONE,
-        header(120, 13),
-        file_ready(100, 7),
-    );
+    request_to(b"request, controlled, monitor", true, false);
+    request_to(b"request, controlled, control", false, true);
+    request_to(b"request, controlled, none", false, false);
+    answer_to(b"answer, controlling, monitor", true, false);
+    answer_to(b"answer, controlling, control", false, true);
+    answer_to(b"answer, controlling, none", false, false);
 }

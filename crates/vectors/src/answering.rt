@@ -1,15 +1,18 @@
 // Which frame answers which: object address, kind, name of file, and after a request for a section
-// its name.
-use crate::admission;
+// its name. A controlling station that uses the monitor direction has sent a frame for object 100,
+// file 7, section 1.
 use crate::print;
 use asdu::file::Afq;
 use asdu::file::Chs;
+use asdu::file::Frq;
 use asdu::file::Lof;
 use asdu::file::Lsq;
 use asdu::file::Nof;
 use asdu::file::Nos;
 use asdu::file::Scq;
 use asdu::file::Srq;
+use asdu::header::Cause;
+use asdu::header::Header;
 use asdu::header::UnknownField;
 use asdu::sizes::AddressSizes;
 use frame::Frame;
@@ -17,6 +20,27 @@ use ft::admit::Received;
 use ft::direction::Role;
 use ft::direction::Selection;
 use ft::procedure::FileTransferProcedure;
+
+fn answer(name: &[u8], sent: Frame, frame: Frame) {
+    let p = FileTransferProcedure {
+        role: Role::Controlling,
+        selection: Selection::MONITOR,
+        ca: 1,
+        org: 0,
+        sizes: AddressSizes::CONVENTIONAL,
+    };
+    let h = Header {
+        type_id: frame.type_id(),
+        cause: Cause {
+            value: Cause::FILE_TRANSFER,
+        },
+        negative: false,
+        originator: 0,
+        common_address: 1,
+    };
+    let r = p.on_answer(h, UnknownField::Nothing, Received::Frame(frame), &[], sent);
+    print::reaction(name, r);
+}
 
 fn request(action: u8) -> Frame {
     Frame::Sc {
@@ -33,6 +57,18 @@ fn acknowledge(action: u8) -> Frame {
         nof: Nof { value: 7 },
         nos: Nos { value: 1 },
         afq: Afq { action, error: 0 },
+    }
+}
+
+fn file_ready(ioa: u32, nof: u16) -> Frame {
+    Frame::FileReady {
+        ioa,
+        nof: Nof { value: nof },
+        lof: Lof { value: 2 },
+        frq: Frq {
+            value: 0,
+            negative_confirm: false,
+        },
     }
 }
 
@@ -61,71 +97,52 @@ fn close(nos: u8) -> Frame {
     }
 }
 
-// What a controlling station that sent one frame makes of another.
-fn answer(name: &[u8], sent: Frame, frame: Frame) {
-    let p = FileTransferProcedure {
-        role: Role::Controlling,
-        selection: Selection::MONITOR,
-        ca: 1,
-        org: 0,
-        sizes: AddressSizes::CONVENTIONAL,
-    };
-    let h = admission::header(frame.type_id(), 13);
-    let r = p.on_answer(h, UnknownField::Nothing, Received::Frame(frame), &[], sent);
-    print::reaction(name, r);
+// A file ready after a request with this action.
+fn offered(name: &[u8], action: u8, ioa: u32, nof: u16) {
+    answer(name, request(action), file_ready(ioa, nof));
+}
+
+// A section ready, or a section's close, after a request or an acknowledgement.
+fn readied(name: &[u8], action: u8, nos: u8) {
+    answer(name, request(action), section_ready(nos));
+}
+
+fn closed(name: &[u8], action: u8, nos: u8) {
+    answer(name, request(action), close(nos));
+}
+
+fn readied_after(name: &[u8], action: u8, nos: u8) {
+    answer(name, acknowledge(action), section_ready(nos));
+}
+
+fn closed_after(name: &[u8], action: u8, nos: u8) {
+    answer(name, acknowledge(action), close(nos));
 }
 
 pub fn kinds() {
-    answer(
-        b"select file, file ready",
-        request(1),
-        admission::file_ready(100, 7),
-    );
-    answer(b"select file, section ready", request(1), section_ready(1));
-    answer(b"request file, section ready", request(2), section_ready(1));
-    answer(
+    offered(b"select file, file ready", Scq::SELECT_FILE, 100, 7);
+    readied(b"select file, section ready", Scq::SELECT_FILE, 1);
+    readied(b"request file, section ready", Scq::REQUEST_FILE, 1);
+    offered(
         b"request file, positive file ready",
-        request(2),
-        admission::file_ready(100, 7),
+        Scq::REQUEST_FILE,
+        100,
+        7,
     );
-    answer(
-        b"action 3, file ready",
-        request(3),
-        admission::file_ready(100, 7),
-    );
-    answer(
-        b"section positive, section ready",
-        acknowledge(3),
-        section_ready(1),
-    );
-    answer(
-        b"section negative, section ready",
-        acknowledge(4),
-        section_ready(1),
-    );
+    offered(b"action 3, file ready", Scq::DEACTIVATE_FILE, 100, 7);
+    readied_after(b"section positive, section ready", Afq::SECTION_POSITIVE, 1);
+    readied_after(b"section negative, section ready", Afq::SECTION_NEGATIVE, 1);
 }
 
 pub fn names() {
-    answer(
-        b"another object address",
-        request(1),
-        admission::file_ready(101, 7),
-    );
-    answer(
-        b"another name of file",
-        request(1),
-        admission::file_ready(100, 8),
-    );
+    offered(b"another object address", Scq::SELECT_FILE, 101, 7);
+    offered(b"another name of file", Scq::SELECT_FILE, 100, 8);
 }
 
 pub fn sections() {
-    answer(b"request section 1, close 1", request(6), close(1));
-    answer(b"request section 1, close 2", request(6), close(2));
-    answer(b"select section 1, ready 2", request(5), section_ready(2));
-    answer(
-        b"section 1 positive, ready 2",
-        acknowledge(3),
-        section_ready(2),
-    );
-    answer(b"section 1 negative, close 2", acknowledge(4), close(2));
+    closed(b"request section 1, close 1", Scq::REQUEST_SECTION, 1);
+    closed(b"request section 1, close 2", Scq::REQUEST_SECTION, 2);
+    readied(b"select section 1, ready 2", Scq::SELECT_SECTION, 2);
+    readied_after(b"section 1 positive, ready 2", Afq::SECTION_POSITIVE, 2);
+    closed_after(b"section 1 negative, close 2", Afq::SECTION_NEGATIVE, 2);
 }

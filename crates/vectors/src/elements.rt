@@ -144,13 +144,25 @@ fn sample() -> DirectoryEntry {
     }
 }
 
+fn spaced(octet: u8) {
+    print::text(b" ");
+    print::number(octet as u64);
+}
+
 fn octets(buffer: &[u8; 13]) {
-    let mut i = 0;
-    while i < 13 {
-        print::text(b" ");
-        print::number(buffer[i] as u64);
-        i += 1;
-    }
+    spaced(buffer[0]);
+    spaced(buffer[1]);
+    spaced(buffer[2]);
+    spaced(buffer[3]);
+    spaced(buffer[4]);
+    spaced(buffer[5]);
+    spaced(buffer[6]);
+    spaced(buffer[7]);
+    spaced(buffer[8]);
+    spaced(buffer[9]);
+    spaced(buffer[10]);
+    spaced(buffer[11]);
+    spaced(buffer[12]);
     print::text(b"\n");
 }
 

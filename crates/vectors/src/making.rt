@@ -118,10 +118,10 @@ pub fn others() {
     page(b"directory with cause 13", 13, &[0; 13]);
 }
 
-fn built(name: &[u8], selection: Selection, ca: u16, ioa: u32, action: u8) {
+fn built(name: &[u8], monitor: bool, control: bool, ca: u16, ioa: u32, action: u8) {
     let procedure = FileTransferProcedure {
         role: Role::Controlling,
-        selection,
+        selection: Selection { monitor, control },
         ca,
         org: 0,
         sizes: AddressSizes::CONVENTIONAL,
@@ -136,40 +136,31 @@ fn built(name: &[u8], selection: Selection, ca: u16, ioa: u32, action: u8) {
 }
 
 pub fn builds() {
-    built(b"build", Selection::MONITOR, 1, 100, 6);
+    built(b"build", true, false, 1, 100, 6);
     built(
         b"build with no direction, action 16",
-        Selection::NONE,
+        false,
+        false,
         1,
         100,
         16,
     );
     built(
         b"build with the other direction, action 16",
-        Selection::CONTROL,
+        false,
+        true,
         1,
         100,
         16,
     );
     built(
         b"build with action 16, wide object",
-        Selection::MONITOR,
+        true,
+        false,
         1,
         16777216,
         16,
     );
-    built(
-        b"build with wide object",
-        Selection::MONITOR,
-        1,
-        16777216,
-        6,
-    );
-    built(
-        b"build on settings of no making",
-        Selection::NONE,
-        0,
-        100,
-        6,
-    );
+    built(b"build with wide object", true, false, 1, 16777216, 6);
+    built(b"build on settings of no making", false, false, 0, 100, 6);
 }

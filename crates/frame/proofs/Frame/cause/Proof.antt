@@ -1,4 +1,3 @@
-use Rattle.laws.proofs.Decide.{whens}
 use borrow.Author.Needs.{needs}
 use Rattle.frame.proofs.Frame.cause.Statement.{statement}
 use Rattle.frame.proofs.Frame.cause.Tie as tie
@@ -22,7 +21,7 @@ cause-spec =
     (λ c κs. search needs)
     (λ c. search needs)
     (λ c κs. search needs)
-    (λ c. simp (whens, c .before .known-told .given .1, c .before .before .self .given .1, ← (c .sc-cause .ensures)))
+    (λ c. simp (c .before .before .self .given .1, ← (c .sc-cause .ensures)))
     (λ c. search needs)
     (λ c. search needs)
     (λ c. search needs)

@@ -1,4 +1,3 @@
-use Rattle.laws.proofs.Decide.{whens}
 use borrow.Author.Needs.{needs}
 use Rattle.frame.proofs.Frame.ioa.Statement.{statement}
 use Rattle.frame.proofs.Frame.ioa.Tie as tie
@@ -15,11 +14,11 @@ ioa-spec =
     (λ c. search needs)
     (λ c. search needs)
     (λ c. search needs)
-    (λ c. simp (whens, c .known-told .given .1, c .before .self .given .1))
-    (λ c. simp (whens, c .known-told2 .given .1, c .before .self2 .given .1))
-    (λ c. simp (whens, c .known-told3 .given .1, c .before .self3 .given .1))
-    (λ c. simp (whens, c .known-told4 .given .1, c .before .self4 .given .1))
-    (λ c. simp (whens, c .known-told5 .given .1, c .before .self5 .given .1))
-    (λ c. simp (whens, c .known-told6 .given .1, c .before .self6 .given .1))
+    (λ c. simp (c .before .self .given .1))
+    (λ c. simp (c .before .self2 .given .1))
+    (λ c. simp (c .before .self3 .given .1))
+    (λ c. simp (c .before .self4 .given .1))
+    (λ c. simp (c .before .self5 .given .1))
+    (λ c. simp (c .before .self6 .given .1))
     (λ c. search needs)
-    (λ c. simp (whens, c .known-told8 .given .1, c .before .self8 .given .1)))
+    (λ c. simp (c .before .self8 .given .1)))

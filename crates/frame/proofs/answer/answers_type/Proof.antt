@@ -1,4 +1,3 @@
-use Rattle.laws.proofs.Decide.{whens}
 use borrow.Author.Needs.{needs}
 use Rattle.frame.proofs.answer.answers_type.Statement.{statement}
 use Rattle.frame.proofs.answer.answers_type.Tie as tie
@@ -19,16 +18,9 @@ answers-type-spec =
     (λ c. search needs)
     (λ c. search needs)
     (λ c. search needs)
-    (λ c. simp (whens, c .before .known-told .given .1, c .before .before .sent .given .1, ← (c .sc-answered .ensures)))
-    (λ c.
-    simp (
-      whens,
-      c .before .before .known-told2 .given .1,
-      c .before .before .before .sent2 .given .1,
-      ← (c .ack-answered .ensures),
-      ← (c .before .type-id .ensures),
-    ))
-    (λ c. simp (whens, c .before .enum-told .given .1, ← (c .type-id2 .ensures)))
+    (λ c. simp (c .before .before .sent .given .1, ← (c .sc-answered .ensures)))
+    (λ c. simp (c .before .before .before .sent2 .given .1, ← (c .ack-answered .ensures), ← (c .before .type-id .ensures)))
+    (λ c. simp (c .before .enum-told .given .1, ← (c .type-id2 .ensures)))
     (λ c. search needs)
     (λ c. search needs)
     (λ c. search needs)

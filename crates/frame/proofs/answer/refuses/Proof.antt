@@ -1,4 +1,3 @@
-use Rattle.laws.proofs.Decide.{whens}
 use borrow.Author.Needs.{needs}
 use Rattle.frame.proofs.answer.refuses.Statement.{statement}
 use Rattle.frame.proofs.answer.refuses.Tie as tie
@@ -15,8 +14,8 @@ refuses-spec =
     (λ c. search needs)
     (λ c. search needs)
     (λ c. search needs)
-    (λ c. simp (whens, c .known-told .given .1, c .before .frame .given .1))
-    (λ c. simp (whens, c .known-told2 .given .1, c .before .frame2 .given .1))
+    (λ c. simp (c .before .frame .given .1))
+    (λ c. simp (c .before .frame2 .given .1))
     (λ c. search needs)
     (λ c. search needs)
     (λ c. search needs)

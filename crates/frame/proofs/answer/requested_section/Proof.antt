@@ -1,4 +1,3 @@
-use Rattle.laws.proofs.Decide.{whens}
 use borrow.Author.Needs.{needs}
 use Rattle.frame.proofs.answer.requested_section.Statement.{statement}
 use Rattle.frame.proofs.answer.requested_section.Tie as tie
@@ -16,7 +15,7 @@ requested-section-spec =
     (λ c. search needs)
     (λ c. search needs)
     (λ c. search needs)
-    (λ c. simp (whens, c .before .known-told .given .1, c .before .before .frame .given .1, ← (c .called-section .ensures)))
+    (λ c. simp (c .before .before .frame .given .1, ← (c .called-section .ensures)))
     (λ c. search needs)
     (λ c. search needs)
     (λ c. search needs)

@@ -1,4 +1,3 @@
-use Rattle.laws.proofs.Decide.{whens}
 use borrow.Author.Needs.{needs}
 use Rattle.frame.proofs.range.is_in_range.Statement.{statement}
 use Rattle.frame.proofs.range.is_in_range.Tie as tie
@@ -30,8 +29,6 @@ is-in-range-spec =
     (λ c κs. search needs)
     (λ c.
     simp (
-      whens,
-      c .before .before .before .known-told .given .1,
       c .before .before .before .before .frame .given .1,
       ← (c .both .ensures),
       ← (c .before .is-in-range2 .ensures),
@@ -39,22 +36,18 @@ is-in-range-spec =
     ))
     (λ c.
     simp (
-      whens,
-      c .before .before .before .known-told2 .given .1,
       c .before .before .before .before .frame2 .given .1,
       ← (c .both2 .ensures),
       ← (c .before .is-in-range4 .ensures),
       ← (c .before .before .is-in-range3 .ensures),
     ))
-    (λ c. simp (whens, c .before .known-told3 .given .1, c .before .before .frame3 .given .1, ← (c .is-in-range5 .ensures)))
+    (λ c. simp (c .before .before .frame3 .given .1, ← (c .is-in-range5 .ensures)))
     (λ c. search needs)
-    (λ c. simp (whens, c .before .known-told4 .given .1, c .before .before .frame4 .given .1, ← (c .is-in-range6 .ensures)))
-    (λ c. simp (whens, c .before .known-told5 .given .1, c .before .before .frame5 .given .1, ← (c .is-segment-in-range .ensures)))
-    (λ c. simp (whens, c .before .known-told6 .given .1, c .before .before .frame6 .given .1, ← (c .is-directory-in-range .ensures)))
+    (λ c. simp (c .before .before .frame4 .given .1, ← (c .is-in-range6 .ensures)))
+    (λ c. simp (c .before .before .frame5 .given .1, ← (c .is-segment-in-range .ensures)))
+    (λ c. simp (c .before .before .frame6 .given .1, ← (c .is-directory-in-range .ensures)))
     (λ c.
     simp (
-      whens,
-      c .before .before .before .known-told7 .given .1,
       c .before .before .before .before .frame7 .given .1,
       ← (c .both3 .ensures),
       ← (c .before .is-in-range8 .ensures),

@@ -1,4 +1,3 @@
-use Rattle.laws.proofs.Decide.{whens}
 use borrow.Author.Needs.{needs}
 use Rattle.ft.proofs.admit.unspecified.Statement.{statement}
 use Rattle.ft.proofs.admit.unspecified.Tie as tie
@@ -10,5 +9,5 @@ unspecified-spec =
     (λ c. search needs)
     (λ c κs. search needs)
     (λ c. search needs)
-    (λ c. simp (whens, c .before .enum-told .given .1, ← (c .cause .ensures)))
-    (λ c. simp (whens, c .enum-told2 .given .1)))
+    (λ c. simp (c .before .enum-told .given .1, ← (c .cause .ensures)))
+    (λ c. simp (c .enum-told2 .given .1)))

@@ -1,4 +1,3 @@
-use Rattle.laws.proofs.Decide.{whens}
 use borrow.Author.Needs.{needs}
 use Rattle.ft.proofs.build.header_of.Statement.{statement}
 use Rattle.ft.proofs.build.header_of.Tie as tie
@@ -9,4 +8,4 @@ header-of-spec =
     (tie.spec
     (λ c κs. search needs)
     (λ c κs. search needs)
-    (λ c. simp (whens, ← (c .type-id .ensures), ← (c .before .cause .ensures))))
+    (λ c. simp (← (c .type-id .ensures), ← (c .before .cause .ensures))))

@@ -10,26 +10,16 @@ unfolding addressRight
 is-own-address-spec =
     tie.close
     (tie.spec
-    (λ c. simp (whens, lt-ltb _ _ (c .if1 .taken), lt-leb _ _ (c .if1 .taken)))
+    (λ c. simp (whens, lt-leb _ _ (c .if1 .taken)))
     (λ c κs. search needs)
-    (λ c.
-    simp (
-      whens,
-      le-leb _ _ (c .if2 .taken),
-      le-ltb _ _ (c .if2 .taken),
-      le-leb _ _ (c .before .before .if1 .left),
-      le-ltb _ _ (c .before .before .if1 .left),
-      ← (c .before .max-common-address .ensures),
-    ))
+    (λ c. simp (whens, le-ltb _ _ (c .if2 .taken), le-leb _ _ (c .before .before .if1 .left), ← (c .before .max-common-address .ensures)))
     (λ c κs. search needs)
     (λ c.
     simp (
       whens,
       yes (c .before .originator-address .ensures) (c .if3 .taken),
       lt-ltb _ _ (c .before .before .if2 .left),
-      lt-leb _ _ (c .before .before .if2 .left),
       le-leb _ _ (c .before .before .before .before .if1 .left),
-      le-ltb _ _ (c .before .before .before .before .if1 .left),
       ← (c .before .before .before .max-common-address .ensures),
     ))
     (λ c.
@@ -37,8 +27,6 @@ is-own-address-spec =
       whens,
       nay (c .before .originator-address .ensures) (c .if3 .left),
       lt-ltb _ _ (c .before .before .if2 .left),
-      lt-leb _ _ (c .before .before .if2 .left),
       le-leb _ _ (c .before .before .before .before .if1 .left),
-      le-ltb _ _ (c .before .before .before .before .if1 .left),
       ← (c .before .before .before .max-common-address .ensures),
     )))

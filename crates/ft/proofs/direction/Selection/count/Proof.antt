@@ -1,4 +1,3 @@
-use Rattle.laws.proofs.Decide.{whens}
 use native.Mathlib.Omega.{arith}
 use borrow.Author.Needs.{needs}
 use Prim.Native.Nat.{_≤_}
@@ -21,4 +20,4 @@ count-spec =
     (λ c κs. search needs)
     (λ c κs. search needs)
     (λ c. omega (arith, flag-count-small (c .before .before .args .self .monitor), flag-count-small (c .before .before .args .self .control), c .flag-count2 .ensures, c .before .flag-count .ensures))
-    (λ c. simp (whens, ← (c .flag-count2 .ensures), ← (c .before .flag-count .ensures))))
+    (λ c. simp (← (c .flag-count2 .ensures), ← (c .before .flag-count .ensures))))

@@ -1,4 +1,3 @@
-use Rattle.laws.proofs.Decide.{whens}
 use borrow.Author.Needs.{needs}
 use Rattle.ft.proofs.direction.Selection.with.Statement.{statement}
 use Rattle.ft.proofs.direction.Selection.with.Tie as tie
@@ -10,6 +9,6 @@ with-spec =
     (λ c. search needs)
     (λ c. search needs)
     (λ c. search needs)
-    (λ c. simp (whens, c .enum-told .given .1))
-    (λ c. simp (whens, c .enum-told2 .given .1))
-    (λ c. simp (whens, c .enum-told3 .given .1)))
+    (λ c. simp (c .enum-told .given .1))
+    (λ c. simp (c .enum-told2 .given .1))
+    (λ c. simp (c .enum-told3 .given .1)))

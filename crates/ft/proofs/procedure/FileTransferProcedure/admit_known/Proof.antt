@@ -1,4 +1,3 @@
-use Rattle.laws.proofs.Decide.{whens}
 use borrow.Author.Needs.{needs}
 use Rattle.ft.proofs.procedure.FileTransferProcedure.admit_known.Statement.{statement}
 use Rattle.ft.proofs.procedure.FileTransferProcedure.admit_known.Tie as tie
@@ -11,5 +10,5 @@ admit-known-spec =
     (λ c κs. search needs)
     (λ c. search needs)
     (λ c κs. search needs)
-    (λ c. simp (whens, c .before .known-told .given .1, c .before .before .unknown .given .1, ← (c .unspecified .ensures)))
-    (λ c. simp (whens, c .before .enum-told .given .1, ← (c .admit-received .ensures))))
+    (λ c. simp (c .before .before .unknown .given .1, ← (c .unspecified .ensures)))
+    (λ c. simp (c .before .enum-told .given .1, ← (c .admit-received .ensures))))

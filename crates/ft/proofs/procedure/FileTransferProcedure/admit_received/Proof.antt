@@ -1,4 +1,3 @@
-use Rattle.laws.proofs.Decide.{whens}
 use borrow.Author.Needs.{needs}
 use Rattle.ft.proofs.procedure.FileTransferProcedure.admit_received.Statement.{statement}
 use Rattle.ft.proofs.procedure.FileTransferProcedure.admit_received.Tie as tie
@@ -10,5 +9,5 @@ admit-received-spec =
     (λ c. search needs)
     (λ c. search needs)
     (λ c κs. search needs)
-    (λ c. simp (whens, c .enum-told .given .1))
-    (λ c. simp (whens, c .before .known-told .given .1, c .before .before .received .given .1, ← (c .admit-frame .ensures))))
+    (λ c. simp (c .enum-told .given .1))
+    (λ c. simp (c .before .before .received .given .1, ← (c .admit-frame .ensures))))

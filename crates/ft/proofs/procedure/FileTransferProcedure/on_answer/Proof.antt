@@ -1,4 +1,3 @@
-use Rattle.laws.proofs.Decide.{whens}
 use borrow.Author.Needs.{needs}
 use Rattle.ft.specs.Admission.{onAnswer}
 use Rattle.ft.proofs.procedure.FileTransferProcedure.on_answer.Statement.{statement}
@@ -17,16 +16,9 @@ on-answer-spec =
     (λ c. search needs)
     (λ c. search needs)
     (λ c. search needs)
-    (λ c.
-    simp (
-      whens,
-      c .before .known-told .given .1,
-      c .before .before .reaction .given .1,
-      ← (c .answered .ensures),
-      ← (c .before .before .before .before .on-asdu .ensures),
-    ))
-    (λ c. simp (whens, c .enum-told .given .1, ← (c .before .before .on-asdu .ensures)))
-    (λ c. simp (whens, c .enum-told2 .given .1, ← (c .before .before .on-asdu .ensures)))
-    (λ c. simp (whens, c .enum-told3 .given .1, ← (c .before .before .on-asdu .ensures)))
-    (λ c. simp (whens, c .enum-told4 .given .1, ← (c .before .before .on-asdu .ensures)))
-    (λ c. simp (whens, c .enum-told5 .given .1, ← (c .before .before .on-asdu .ensures))))
+    (λ c. simp (c .before .before .reaction .given .1, ← (c .answered .ensures), ← (c .before .before .before .before .on-asdu .ensures)))
+    (λ c. simp (c .enum-told .given .1, ← (c .before .before .on-asdu .ensures)))
+    (λ c. simp (c .enum-told2 .given .1, ← (c .before .before .on-asdu .ensures)))
+    (λ c. simp (c .enum-told3 .given .1, ← (c .before .before .on-asdu .ensures)))
+    (λ c. simp (c .enum-told4 .given .1, ← (c .before .before .on-asdu .ensures)))
+    (λ c. simp (c .enum-told5 .given .1, ← (c .before .before .on-asdu .ensures))))

@@ -1,4 +1,3 @@
-use Rattle.laws.proofs.Decide.{whens}
 use borrow.Author.Needs.{needs}
 use Rattle.ft.specs.Admission.{serves}
 use Rattle.ft.proofs.procedure.FileTransferProcedure.serves.Statement.{statement}
@@ -11,4 +10,4 @@ serves-spec =
     (tie.spec
     (λ c κs. search needs)
     (λ c κs. search needs)
-    (λ c. simp (whens, ← (c .uses .ensures), ← (c .before .direction-for .ensures))))
+    (λ c. simp (← (c .uses .ensures), ← (c .before .direction-for .ensures))))
