@@ -1,0 +1,5 @@
+pub mod Sections
+pub mod Making
+pub mod Refusals
+pub mod Indexed
+pub mod Table
