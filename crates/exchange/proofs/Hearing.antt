@@ -8,7 +8,7 @@ use lib.Dec.{leb}
 use lib.ListN.{length}
 use borrow.Author.Tests.{le-leb, eq-eqb, ne-eqb}
 use Rattle.laws.specs.When.{when}
-use Rattle.asdu.specs.Sizes.{maxIoa, maxCommonAddress}
+use Rattle.asdu.specs.Sizes.{sizesRight, maxIoa, maxCommonAddress}
 use Rattle.asdu.specs.Elements.{scqInRange, afqInRange}
 use Rattle.asdu.specs.Header.{isMirror}
 use Rattle.asdu.specs.declared.file.Nos.{Nos}
@@ -20,8 +20,9 @@ use Rattle.frame.specs.declared.Frame.the-variants as F
 use Rattle.frame.specs.Frames.{typeOf, causeOf, receiverSide, ioaOf, isFileType}
 use Rattle.frame.specs.Ranges.{valuesInRange}
 use Rattle.frame.specs.Answers.{answersTo}
-use Rattle.ft.specs.Directions.{otherRole}
-use Rattle.ft.specs.Procedure.{settled}
+use Rattle.ft.specs.Directions.{otherRole, usesFunction}
+use Rattle.ft.specs.Procedure.{settled, addressRight}
+use Rattle.ft.specs.Building.{addressed, framed, built}
 use Rattle.ft.specs.Admission.{serves, frameAgrees, admitFrame, onAsdu, answered, onAnswer}
 use Rattle.ft.specs.declared.direction.Role.{Role}
 use Rattle.ft.specs.declared.direction.Role.the-variants.{Controlling, Controlled}
@@ -32,7 +33,9 @@ use Rattle.provide.specs.Record.{freshProvider, fileAgrees}
 use Rattle.provide.specs.Requests.{onSc, onAck, isOurs, onRequest, provide}
 use Rattle.provide.specs.declared.Provider.{Provider}
 use Rattle.provide.proofs.Making as PM
-use Rattle.receive.specs.Record.{storeAgrees, awaited}
+use Rattle.asdu.proofs.Range.{both}
+use Rattle.receive.specs.Record.{storeAgrees, awaited, select, stepped, started}
+use Rattle.receive.specs.declared.ReceiverAnswer.the-variants as RA
 use Rattle.receive.specs.Answers.{onAnswered, receive}
 use Rattle.receive.specs.declared.Receiver.{Receiver}
 use Rattle.receive.specs.declared.Sent.{Sent}
@@ -82,6 +85,19 @@ swap p Controlling true = refl
 swap p Controlling false = refl
 swap p Controlled true = refl
 swap p Controlled false = refl
+
+either : (a b : Bool) → b ≡ true → when a true b ≡ true
+unfolding when
+either true b e = refl
+either false b e = e
+
+-- a station that uses a direction uses the function
+uses : (p : FileTransferProcedure) (r : Role) (b : Bool) → serves p r b ≡ true → usesFunction (p .selection) ≡ true
+unfolding serves usesFunction when
+uses p Controlling true e = rw e
+uses p Controlled false e = rw e
+uses p Controlling false e = either (p .selection .monitor) (p .selection .control) e
+uses p Controlled true e = either (p .selection .monitor) (p .selection .control) e
 
 module _ (m : Transfer) where
   provider-facts : PM.Made (m .provider-station) (m .object) (m .name) (length (m .file)) (m .provider)
@@ -162,4 +178,19 @@ module _ (m : Transfer) where
             (rw (m .widths) fits) (rw side (swap (m .receiver-station) (m .receiver-station .role) true ∙ m .receiver-serves)),
         side,
         right,
+      )
+
+  -- the Receiver's start
+  pub starts : started (R S.Nothing Unknown 0 0) (m .store)
+      ≡ stepped (R (S.Frame (select (R S.Nothing Unknown 0 0))) Unknown 0 0) (RA.Send (select (R S.Nothing Unknown 0 0)))
+  unfolding started built framed addressed settled scqInRange when
+  starts =
+      let b = both (sizesRight (m .receiver-station .sizes)) (addressRight (m .receiver-station .sizes) (m .receiver-station .ca) (m .receiver-station .org)) (receiver-facts .settings) in
+      simp (
+        holds S.Nothing Unknown 0 0 (m .store) (omega arith),
+        b .0,
+        b .1,
+        uses (m .receiver-station) (m .receiver-station .role) true (m .receiver-serves),
+        m .receiver-serves,
+        receiver-facts .object,
       )

@@ -1,3 +1,5 @@
 pub mod Hearing
 pub mod Steps
 pub mod Sendings
+pub mod Sections
+pub mod Theorem
