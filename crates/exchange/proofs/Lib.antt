@@ -3,3 +3,5 @@ pub mod Steps
 pub mod Sendings
 pub mod Sections
 pub mod Theorem
+pub mod Budget
+pub mod Damaging
