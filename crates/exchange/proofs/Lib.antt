@@ -5,3 +5,4 @@ pub mod Sections
 pub mod Theorem
 pub mod Budget
 pub mod Damaging
+pub mod Script
