@@ -5,11 +5,10 @@ use mathlib.Core.Logic.{_≢_}
 use mathlib.Core.List.{List, [], _∷_, _++_}
 use native.Mathlib.Omega.{arith}
 use lib.ListN.{length, replicate}
-use Rattle.lists.specs.Parts.{divCeil, parts, joined}
+use Rattle.lists.specs.Parts.{joined}
 use Rattle.lists.proofs.Parts.{Fit, joined-all, fit-all}
 use Rattle.ft.specs.Checksum.{octetSum, checksum}
 use Rattle.provide.specs.Sections.{segments}
-use Rattle.exchange.specs.Exchange.{Fate, arrives}
 use Rattle.exchange.specs.Transfer.{Sending, arrived, AllDamaged, Damaged, Radio}
 use Rattle.exchange.specs.Damaging.{raised, unhurt, hurt, namings, scriptRadio, Nameable}
 

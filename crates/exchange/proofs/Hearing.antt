@@ -32,6 +32,7 @@ use Rattle.ft.specs.declared.admit.Reaction.the-variants.{Requested, Answered}
 use Rattle.provide.specs.Record.{freshProvider, fileAgrees}
 use Rattle.provide.specs.Requests.{onSc, onAck, isOurs, onRequest, provide}
 use Rattle.provide.specs.declared.Provider.{Provider}
+use Rattle.provide.proofs.Facts.{request-heard, ours-heard}
 use Rattle.provide.proofs.Making as PM
 use Rattle.asdu.proofs.Range.{both}
 use Rattle.receive.specs.Record.{storeAgrees, awaited, select, stepped, started}
@@ -42,6 +43,7 @@ use Rattle.receive.specs.declared.Sent.{Sent}
 use Rattle.receive.specs.declared.Sent.the-variants as S
 use Rattle.receive.specs.declared.Length.{Length}
 use Rattle.receive.specs.declared.Length.the-variants.{Unknown}
+use Rattle.receive.proofs.Facts.{answer-heard}
 use Rattle.receive.proofs.Making as RM
 use Rattle.exchange.specs.Transfer.{Sound, Transfer}
 
@@ -127,32 +129,29 @@ module _ (m : Transfer) where
 
   provider-hears : (f : Frame) (h : Header) → Sound (m .receiver-station) f h → receiverSide f ≡ true → ioaOf f ≡ m .object
       → valuesInRange (m .provider-station .sizes) f [] ≡ true → provide P (m .file) h U.Nothing (D.Frame f) [] ≡ onRequest P f
-  unfolding provide when
+  unfolding when
   provider-hears f h sound side object fits =
-      simp (
-        agrees,
-        admits (m .provider-station) (m .receiver-station) f h [] sound (sym (m .widths)) settings (rw object object-fits) fits
-            (rw side (swap (m .provider-station) (m .provider-station .role) false ∙ m .provider-serves)),
-        side,
-      )
+      request-heard P (m .file) h U.Nothing (D.Frame f) [] f agrees refl
+      (admits (m .provider-station) (m .receiver-station) f h [] sound (sym (m .widths)) settings (rw object object-fits) fits
+      (rw side (swap (m .provider-station) (m .provider-station .role) false ∙ m .provider-serves)) ∙ rw side)
 
   -- a request of the Receiver's
   pub hears-sc : (h : Header) (nos : Nos) (action : ℕ) → leb action 15 ≡ true
       → Sound (m .receiver-station) (F.Sc (m .object) (m .name) nos (record { action = action; error = 0 })) h
       → provide P (m .file) h U.Nothing (D.Frame (F.Sc (m .object) (m .name) nos (record { action = action; error = 0 }))) [] ≡ onSc P nos (record { action = action; error = 0 })
-  unfolding scqInRange onRequest isOurs when
+  unfolding scqInRange isOurs when
   hears-sc h nos action small sound =
       provider-hears (F.Sc (m .object) (m .name) nos (record { action = action; error = 0 })) h sound refl refl (simp small)
-      ∙ simp (eq-eqb (m .object) (m .object) refl, eq-eqb (m .name .value) (m .name .value) refl)
+      ∙ ours-heard P _ (simp (eq-eqb (m .object) (m .object) refl, eq-eqb (m .name .value) (m .name .value) refl))
 
   -- an acknowledgement
   pub hears-ack : (h : Header) (nos : Nos) (action : ℕ) → leb action 15 ≡ true
       → Sound (m .receiver-station) (F.Ack (m .object) (m .name) nos (record { action = action; error = 0 })) h
       → provide P (m .file) h U.Nothing (D.Frame (F.Ack (m .object) (m .name) nos (record { action = action; error = 0 }))) [] ≡ onAck P nos (record { action = action; error = 0 })
-  unfolding afqInRange onRequest isOurs when
+  unfolding afqInRange isOurs when
   hears-ack h nos action small sound =
       provider-hears (F.Ack (m .object) (m .name) nos (record { action = action; error = 0 })) h sound refl refl (simp small)
-      ∙ simp (eq-eqb (m .object) (m .object) refl, eq-eqb (m .name .value) (m .name .value) refl)
+      ∙ ours-heard P _ (simp (eq-eqb (m .object) (m .object) refl, eq-eqb (m .name .value) (m .name .value) refl))
 
   -- the Receiver, until it has ended
   abbrev pub R : Sent → Length → ℕ → ℕ → Receiver
@@ -170,15 +169,15 @@ module _ (m : Transfer) where
   pub receiver-hears : (s : Frame) (l : Length) (kept staged : ℕ) (store payload : List ℕ) (f : Frame) (h : Header) → kept + staged ≤ length store
       → Sound (m .provider-station) f h → receiverSide f ≡ false → ioaOf f ≡ m .object → valuesInRange (m .provider-station .sizes) f payload ≡ true → answersTo s f ≡ true
       → receive (R (S.Frame s) l kept staged) store h U.Nothing (D.Frame f) payload ≡ onAnswered (R (S.Frame s) l kept staged) store payload f
-  unfolding receive onAnswer answered awaited when
+  unfolding onAnswer answered awaited when
   receiver-hears s l kept staged store payload f h room sound side object fits right =
-      simp (
-        holds (S.Frame s) l kept staged store room,
+      answer-heard (R (S.Frame s) l kept staged) store h U.Nothing (D.Frame f) payload f (holds (S.Frame s) l kept staged store room) refl
+      (simp (
         admits (m .receiver-station) (m .provider-station) f h payload sound (m .widths) (receiver-facts .settings) (rw object (receiver-facts .object))
             (rw (m .widths) fits) (rw side (swap (m .receiver-station) (m .receiver-station .role) true ∙ m .receiver-serves)),
         side,
         right,
-      )
+      ))
 
   -- the Receiver's start
   pub starts : started (R S.Nothing Unknown 0 0) (m .store)

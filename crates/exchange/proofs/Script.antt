@@ -1,9 +1,6 @@
 -- Document 01's worked script meets the theorem's premises, and its 13 frames are those of the exchange.
-use Prim.Native.Nat.{ℕ, _<_}
 use mathlib.Core.Path.{_≡_, refl}
-use mathlib.Core.Bool.{true, false}
 use mathlib.Core.List.{List, [], _∷_, map}
-use native.Mathlib.Omega.{arith}
 use lib.Dec.{lit<, lit≤}
 use Rattle.laws.specs.When.{when}
 use Rattle.lists.specs.Parts.{divCeil}

@@ -1,15 +1,14 @@
 -- The sections in turn, and the end.
-use Prim.Native.Nat.{ℕ, zero, suc, _+_, _-_, _*_, _≤_, _<_}
+use Prim.Native.Nat.{ℕ, zero, suc, _+_, _*_, _≤_, _<_}
 use mathlib.Core.Path.{_≡_, refl, sym, ap, _∙_}
 use mathlib.Core.Bool.{true, false}
 use mathlib.Core.List.{List, [], _∷_, _++_, append-assoc}
 use native.Mathlib.Omega.{arith}
 use native.Mathlib.Numerals.{add-one}
 use native.Mathlib.Nat.{suc-mul}
-use lib.Dec.{leb}
 use lib.ListN.{length, take, drop, length-append, length-drop, length-take, take-append-drop}
-use lib.Seq.{take-append-seam, take-all, drop-drop}
-use borrow.Author.Tests.{le-ltb, lt-ltb, le-leb, eq-eqb}
+use lib.Seq.{take-all, drop-drop}
+use borrow.Author.Tests.{le-leb, eq-eqb}
 use Rattle.laws.specs.When.{when}
 use Rattle.lists.specs.Parts.{divCeil, parts}
 use Rattle.asdu.specs.declared.file.Nos.{Nos}
@@ -21,26 +20,24 @@ use Rattle.frame.specs.declared.Frame.the-variants as F
 use Rattle.frame.specs.Answers.{answersTo, namesAgree, ackAnswered, oneOf}
 use Rattle.ft.specs.Checksum.{checksum}
 use Rattle.provide.specs.Sections.{sectionLength, sectionCount}
-use Rattle.provide.specs.Record.{ended}
 use Rattle.provide.specs.Replies.{octetsOf, sectionReady, closeFrame}
-use Rattle.provide.specs.Requests.{replying, after, onSc, onAck}
-use Rattle.provide.specs.declared.Reply.{Reply}
+use Rattle.provide.specs.Requests.{replying, onAck}
 use Rattle.provide.specs.declared.Reply.the-variants.{SectionReady, Section, FileClose}
 use Rattle.provide.specs.declared.ProviderAnswer.{ProviderAnswer}
-use Rattle.provide.specs.declared.ProviderAnswer.the-variants as PA
+use Rattle.provide.proofs.Facts.{requests-section, next-section, no-section, file-accepted}
 use Rattle.provide.proofs.Sections.{enough, section-from}
-use Rattle.receive.specs.Record.{acknowledge, withState}
-use Rattle.receive.specs.Answers.{onSectionReady, onFileClose, onClose}
-use Rattle.receive.specs.declared.Receiver.{Receiver}
+use Rattle.receive.proofs.Facts as RF
+use Rattle.receive.specs.Record.{withState}
+use Rattle.receive.specs.Answers.{onSectionReady, onClose}
 use Rattle.receive.specs.declared.Sent.the-variants as S
 use Rattle.receive.specs.declared.Length.{Length}
 use Rattle.receive.specs.declared.Length.the-variants.{Known}
 use Rattle.receive.specs.declared.ReceiverAnswer.{ReceiverAnswer}
 use Rattle.receive.specs.declared.ReceiverAnswer.the-variants as RA
 use Rattle.exchange.specs.Exchange.{byProvider, byReceiver, Fate, Passing, flown, Exchange, provided, sentBy}
-use Rattle.exchange.specs.Transfer.{Transfer, Sendings, AllDamaged, Intact, arrived, Radio, inOrder, sendingFrames, damagedSendings, providerFrames, receiverFrames, accepted}
+use Rattle.exchange.specs.Transfer.{Transfer, Sendings, AllDamaged, Intact, arrived, Radio, inOrder, sendingFrames, damagedSendings, providerFrames, receiverFrames}
 use Rattle.exchange.proofs.Hearing.{P, R, short, provider-fresh, receiver-fresh, hears-ack}
-use Rattle.exchange.proofs.Steps.{Adds, adds, Ends, Ex, sc, ack, ask, tell, queued, left, back, asked-sc, asked-ack, takes}
+use Rattle.exchange.proofs.Steps.{Adds, adds, Ends, Ex, sc, ack, ask, tell, back, asked-sc, asked-ack, takes}
 use Rattle.exchange.proofs.Sendings.{limit, Heard, packets, sending-passes, accepts, heard-call, damaged-pass}
 
 module _ (m : Transfer) where
@@ -66,12 +63,12 @@ module _ (m : Transfer) where
         → ((t′ : List Passing) (u′ : ProviderAnswer) → Adds t t′ (1 + (1 + length (x .damaged)) * (divCeil (length o) (limit m) + 1)) (1 + length (x .damaged))
         → Ends m (Ex m (ask m (ack m 3 nos) ∷ []) (ack m 3 nos) l (acc ++ o) [] (drop (length o) rest) radio t′ u′ (RA.Send (ack m 3 nos))))
         → Ends m (Ex m (tell m (sectionReady (P m) (m .file) nos) ∷ []) s l acc [] rest (x .damaged ++ (x .intact ∷ radio)) t u v)
-    unfolding onSectionReady onSc when
+    unfolding onSectionReady when
     section-passes radio s rest t u v awaits fits k =
         takes m s l acc [] rest _ t u v _ []
         (λ t′. Ex m (ask m (sc m 6 nos) ∷ []) (sc m 6 nos) l acc [] rest (x .damaged ++ (x .intact ∷ radio)) t′ u (RA.Send (sc m 6 nos)))
         refl refl (simp (is, le-leb (length o) 0xFFFFFF small)) (awaits _) refl
-        (λ t₁ d₁. asked-sc m (sc m 6 nos) l acc [] rest _ t₁ u _ nos 6 (Section nos) refl refl
+        (λ t₁ d₁. asked-sc m (sc m 6 nos) l acc [] rest _ t₁ u _ nos 6 (Section nos) refl (requests-section (P m) nos 0)
         (λ t₂ d₂. rw is
         (damaged-pass m wide l nos acc o is (x .intact) radio (x .damaged) (sc m 6 nos) rest t₂ _ _ (heard-call m nos) bad fits
         (λ s′ rest′ t₃ u′ v′ heard e b d₃.
@@ -88,20 +85,11 @@ module _ (m : Transfer) where
 
   -- ---- what a positive acknowledgement is followed by
 
-  next : (j : ℕ) → suc j < count → after (P m) (number j) ≡ SectionReady (number (suc j))
-  unfolding after when
-  next j h = simp (lt-ltb (suc j) count h, add-one (suc j))
+  next : (j : ℕ) → suc j < count → onAck (P m) (number j) (record { action = 3; error = 0 }) ≡ replying (P m) (SectionReady (number (suc j)))
+  next j h = next-section (P m) (number j) 0 h ∙ rw (add-one (suc j))
 
-  none-next : (j : ℕ) → suc j ≡ count → after (P m) (number j) ≡ FileClose (number j)
-  unfolding after when
-  none-next j e = simp (le-ltb (suc j) count (omega arith))
-
-  acked : (l : Length) (acc rest : List ℕ) (radio : List (List Fate)) (t : List Passing) (u : ProviderAnswer) (v : ReceiverAnswer) (nos : Nos) (r : Reply) → after (P m) nos ≡ r
-      → ((t′ : List Passing) → Adds t t′ 0 1 → Ends m (Ex m (queued m r radio) (ack m 3 nos) l acc [] rest (left m r radio) t′ (PA.Running r) v))
-      → Ends m (Ex m (ask m (ack m 3 nos) ∷ []) (ack m 3 nos) l acc [] rest radio t u v)
-  unfolding onAck when
-  acked l acc rest radio t u v nos r e =
-      asked-ack m (ack m 3 nos) l acc [] rest radio t u v nos 3 r refl (ap (λ (x : Reply). replying (P m) x) e)
+  none-next : (j : ℕ) → suc j ≡ count → onAck (P m) (number j) (record { action = 3; error = 0 }) ≡ replying (P m) (FileClose (number j))
+  none-next j e = no-section (P m) (number j) 0 (omega arith)
 
   awaits-next : (nos nos′ : Nos) → Awaits (ack m 3 nos) nos′
   unfolding answersTo namesAgree ackAnswered oneOf when
@@ -130,10 +118,9 @@ module _ (m : Transfer) where
   ends : (nos : Nos) (rest : List ℕ) (radio : List (List Fate)) (u : ProviderAnswer) (t : List Passing)
       → nos ≡ record { value = count } → rest ≡ drop (length (m .file)) (m .store)
       → sentBy byProvider t ≡ providerFrames m → sentBy byReceiver t + 1 ≡ receiverFrames m → Ends m (closed nos rest radio u t)
-  unfolding onAck when
   ends nos rest radio u t last behind na mb =
       back m (ask m (ack m 1 nos)) (closed nos rest radio u t) _
-      (ap (provided (m .file) (closed nos rest radio u t) (ask m (ack m 1 nos)) []) (hears-ack m _ nos 1 refl (m .sound t (ask m (ack m 1 nos))))) refl (
+      (ap (provided (m .file) (closed nos rest radio u t) (ask m (ack m 1 nos)) []) (hears-ack m _ nos 1 refl (m .sound t (ask m (ack m 1 nos))) ∙ file-accepted (P m) nos 0)) refl (
         0,
         omega (arith, adds t (ask m (ack m 1 nos))),
         record {
@@ -152,10 +139,10 @@ module _ (m : Transfer) where
       → nos ≡ record { value = count } → rest ≡ drop (length (m .file)) (m .store)
       → sentBy byProvider t + 1 ≡ providerFrames m → sentBy byReceiver t + 1 ≡ receiverFrames m
       → Ends m (Ex m (tell m (closeFrame (P m) nos 1 (m .file)) ∷ []) (ack m 3 nos) (Known (length (m .file))) (m .file) [] rest radio t u v)
-  unfolding onClose onFileClose when
+  unfolding onClose when
   finish nos rest radio t u v last behind na mb =
       takes m (ack m 3 nos) (Known (length (m .file))) (m .file) [] rest radio t u v _ [] (closed nos rest radio u) refl refl refl (closes-file nos _ _)
-      (simp (take-append-seam (m .file) rest, eq-eqb (checksum (m .file)) (checksum (m .file)) refl))
+      (simp (RF.file-accepted (R m (S.Frame (ack m 3 nos)) (Known (length (m .file))) (length (m .file)) 0) (m .file) [] rest refl refl nos (record { value = checksum (m .file) }) refl))
       (λ t′ d. ends nos rest radio u t′ last behind (omega arith) (omega arith))
 
   -- ---- the sections in turn: acc is accepted, rem is left of the file, and section j + 1 is announced
@@ -189,7 +176,7 @@ module _ (m : Transfer) where
         → Ends m (Ex m (tell m (sectionReady (P m) (m .file) (number j)) ∷ []) s (Known (length (m .file))) acc [] rest (x .damaged ++ (x .intact ∷ radio)) t u v)
     one-passes radio more k =
         section-passes wide (Known (length (m .file))) (number j) acc (take size rem) (octets-at j rem is) small x bad good radio s rest t u v awaits (simp length-take (omega arith))
-        (λ t₁ u′ d₁. acked (Known (length (m .file))) (acc ++ take size rem) (drop (length (take size rem)) rest) radio t₁ u′ _ (number j) (SectionReady (number (suc j))) (next j more)
+        (λ t₁ u′ d₁. asked-ack m (ack m 3 (number j)) (Known (length (m .file))) (acc ++ take size rem) [] (drop (length (take size rem)) rest) radio t₁ u′ _ (number j) 3 (SectionReady (number (suc j))) refl (next j more)
         (λ t₂ d₂. k t₂ _ _ (omega arith)))
 
     -- the last one
@@ -197,7 +184,7 @@ module _ (m : Transfer) where
         → Ends m (Ex m (tell m (sectionReady (P m) (m .file) (number j)) ∷ []) s (Known (length (m .file))) acc [] rest (x .damaged ++ (x .intact ∷ [])) t u v)
     last-passes e na mb =
         section-passes wide (Known (length (m .file))) (number j) acc (take size rem) (octets-at j rem is) small x bad good [] s rest t u v awaits (simp length-take (omega arith))
-        (λ t₁ u′ d₁. acked (Known (length (m .file))) (acc ++ take size rem) (drop (length (take size rem)) rest) [] t₁ u′ _ (number j) (FileClose (number j)) (none-next j e)
+        (λ t₁ u′ d₁. asked-ack m (ack m 3 (number j)) (Known (length (m .file))) (acc ++ take size rem) [] (drop (length (take size rem)) rest) [] t₁ u′ _ (number j) 3 (FileClose (number j)) refl (none-next j e)
         (λ t₂ d₂. rw (take-all size rem (last-fits j rem e is), kept)
         (finish (number j) (drop (length rem) rest) [] t₂ _ _ (ap (λ (n : ℕ). record { value = n }) e) behind (omega arith) (omega arith))))
 

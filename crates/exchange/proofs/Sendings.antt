@@ -7,7 +7,7 @@ use mathlib.Core.List.{List, [], _∷_, _++_, map, append-nil, append-assoc}
 use native.Mathlib.Omega.{arith}
 use lib.ListN.{length, drop, length-append, length-drop}
 use lib.Seq.{drop-append-add, drop-drop}
-use borrow.Author.Tests.{eq-eqb, ne-eqb}
+use borrow.Author.Tests.{eq-eqb}
 use Rattle.laws.specs.When.{when}
 use Rattle.lists.specs.Parts.{divCeil, joined}
 use Rattle.lists.proofs.Parts.{Fit, length-parts, joined-all, fit-all}
@@ -21,19 +21,20 @@ use Rattle.frame.specs.declared.Frame.the-variants as F
 use Rattle.frame.specs.Answers.{answersTo, namesAgree, calledSection, scAnswered, sectionAnswered, ackAnswered, oneOf}
 use Rattle.ft.specs.Checksum.{checksum}
 use Rattle.provide.specs.Sections.{segments}
-use Rattle.provide.specs.Replies.{Packet, bare, octetsOf, closeFrame, segmentPacket, replies}
-use Rattle.provide.specs.Requests.{onAck}
+use Rattle.provide.specs.Replies.{Packet, bare, octetsOf, closeFrame, segmentPacket}
+use Rattle.provide.proofs.Facts.{section-again}
 use Rattle.provide.specs.declared.Reply.the-variants.{Section}
 use Rattle.provide.specs.declared.ProviderAnswer.{ProviderAnswer}
 use Rattle.provide.specs.declared.ProviderAnswer.the-variants as PA
-use Rattle.receive.specs.Answers.{onSectionClose, onClose}
+use Rattle.receive.specs.Answers.{onClose}
 use Rattle.receive.specs.declared.Length.{Length}
 use Rattle.receive.specs.declared.ReceiverAnswer.{ReceiverAnswer}
 use Rattle.receive.specs.declared.ReceiverAnswer.the-variants as RA
-use Rattle.receive.proofs.Store.{staged-part}
+use Rattle.receive.specs.declared.Sent.the-variants as S
+use Rattle.receive.proofs.Facts.{section-accepted, section-dropped}
 use Rattle.exchange.specs.Exchange.{Fate, lost, arrives, Passing, flown, nextSending, sendingsLeft}
 use Rattle.exchange.specs.Transfer.{Transfer, Sending, arrived, Damaged, AllDamaged}
-use Rattle.exchange.proofs.Hearing.{P}
+use Rattle.exchange.proofs.Hearing.{P, R}
 use Rattle.exchange.proofs.Steps.{Adds, Ends, Ex, sc, ack, ask, tell, asked-ack, takes, loses, gains}
 
 -- no more arrives than was sent
@@ -134,24 +135,24 @@ module _ (m : Transfer) where
           → ((t′ : List Passing) → Adds t t′ 1 0
           → Ends m (Ex m (ask m (ack m 4 nos) ∷ []) (ack m 4 nos) l acc [] (sec ++ rest) radio t′ u (RA.Send (ack m 4 nos))))
           → Ends m (Ex m (tell m (closeFrame (P m) nos 3 o) ∷ []) s l acc sec rest radio t u v)
-      unfolding onClose onSectionClose when
+      unfolding onClose when
       refuses differs =
           takes m s l acc sec rest radio t u v _ []
           (λ t′. Ex m (ask m (ack m 4 nos) ∷ []) (ack m 4 nos) l acc [] (sec ++ rest) radio t′ u (RA.Send (ack m 4 nos)))
           refl refl refl (heard .close _ _)
-          (simp (staged-part acc sec rest, ne-eqb (checksum sec) (checksum o) differs))
+          (simp (section-dropped (R m (S.Frame s) l (length acc) (length sec)) acc sec rest refl refl nos (record { value = checksum o }) differs))
 
       -- the same sum: it is accepted
       pub accepts : checksum sec ≡ checksum o
           → ((t′ : List Passing) → Adds t t′ 1 0
           → Ends m (Ex m (ask m (ack m 3 nos) ∷ []) (ack m 3 nos) l (acc ++ sec) [] rest radio t′ u (RA.Send (ack m 3 nos))))
           → Ends m (Ex m (tell m (closeFrame (P m) nos 3 o) ∷ []) s l acc sec rest radio t u v)
-      unfolding onClose onSectionClose when
+      unfolding onClose when
       accepts equals =
           takes m s l acc sec rest radio t u v _ []
           (λ t′. Ex m (ask m (ack m 3 nos) ∷ []) (ack m 3 nos) l (acc ++ sec) [] rest radio t′ u (RA.Send (ack m 3 nos)))
           refl refl refl (heard .close _ _)
-          (simp (staged-part acc sec rest, eq-eqb (checksum sec) (checksum o) equals, length-append, append-assoc))
+          (simp (section-accepted (R m (S.Frame s) l (length acc) (length sec)) acc sec rest refl refl nos (record { value = checksum o }) equals, length-append, append-assoc))
 
   -- a section request and a negative acknowledgement are answered by the section
   pub heard-call : (nos : Nos) → Heard (sc m 6 nos) nos
@@ -178,11 +179,10 @@ module _ (m : Transfer) where
         → Ends m (Ex m (flown (nextSending true radio) (packets nos o)) (ack m 4 nos) l acc [] (arrived x ++ drop (length (arrived x)) rest)
         (sendingsLeft true radio) t′ (PA.Running (Section nos)) (RA.Send (ack m 4 nos))))
         → Ends m (Ex m (flown x (packets nos o)) s l acc [] rest radio t u v)
-    unfolding onAck when
     damaged-one radio x s rest t u v heard bad fits k =
         sending-passes wide l nos acc o radio s x rest t u v heard (bad .0) fits
         (λ t′ v′ d. refuses wide l nos acc o s heard (arrived x) (drop (length (arrived x)) rest) radio t′ u v′ (bad .1)
-        (λ t″ d′. asked-ack m (ack m 4 nos) l acc [] (arrived x ++ drop (length (arrived x)) rest) radio t″ u _ nos 4 (Section nos) refl refl
+        (λ t″ d′. asked-ack m (ack m 4 nos) l acc [] (arrived x ++ drop (length (arrived x)) rest) radio t″ u _ nos 4 (Section nos) refl (section-again (P m) nos 0)
         (λ t‴ d″. rw is (k t‴ (omega arith)))))
 
     -- all of them, up to the intact one: the store behind the section is as it was

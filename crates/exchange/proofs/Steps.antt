@@ -1,7 +1,7 @@
 -- The exchange's steps, one lemma for each kind of frame. Each is told backwards: where the exchange ends well after the step, it does so before it.
 use Prim.Native.Nat.{ℕ, suc, _+_, _≤_}
 use mathlib.Core.Path.{_≡_, refl, sym, ap, _∙_, subst}
-use mathlib.Core.Bool.{Bool, true, false}
+use mathlib.Core.Bool.{true, false}
 use mathlib.Core.List.{List, [], _∷_, _++_, append-nil}
 use native.Mathlib.Omega.{arith}
 use lib.Dec.{leb}
@@ -20,15 +20,15 @@ use Rattle.provide.specs.Requests.{replying, onSc, onAck}
 use Rattle.provide.specs.declared.Reply.{Reply}
 use Rattle.provide.specs.declared.ProviderAnswer.{ProviderAnswer}
 use Rattle.provide.specs.declared.ProviderAnswer.the-variants as PA
-use Rattle.receive.specs.Answers.{onSegment, onAnswered}
+use Rattle.receive.specs.Answers.{onAnswered}
 use Rattle.receive.specs.declared.Length.{Length}
 use Rattle.receive.specs.declared.Sent.the-variants as S
 use Rattle.receive.specs.declared.ReceiverAnswer.{ReceiverAnswer}
 use Rattle.receive.specs.declared.ReceiverAnswer.the-variants as RA
-use Rattle.receive.proofs.Store.{written-after}
+use Rattle.receive.proofs.Facts.{segment-taken}
 use Rattle.exchange.specs.Exchange.{Side, byProvider, byReceiver, Fate, lost, arrives, Passing, untouched, isSection, nextSending, sendingsLeft, flown, Exchange, provided, taken, step, run, oneBy, sentBy}
 use Rattle.exchange.specs.Transfer.{Transfer, Transferred, providerFrames, receiverFrames}
-use Rattle.exchange.proofs.Hearing.{P, R, object-fits, hears-sc, hears-ack, receiver-hears}
+use Rattle.exchange.proofs.Hearing.{P, R, hears-sc, hears-ack, receiver-hears}
 
 -- t′ has p more frames of the Provider's than t, and r more of the Receiver's
 abbrev pub Adds : List Passing → List Passing → ℕ → ℕ → Type 0
@@ -147,12 +147,11 @@ module _ (m : Transfer) where
           → length x ≡ length o → length o ≤ length rest → answersTo s (segmentPacket (P m) nos o .frame) ≡ true
           → ((t′ : List Passing) → Adds t t′ 1 0 → Ends (Ex q s l acc (sec ++ x) (drop (length x) rest) radio t′ u RA.Running))
           → Ends (Ex (hit nos o (arrives x) ∷ q) s l acc sec rest radio t u v)
-      unfolding segmentInRange onSegment when
+      unfolding segmentInRange when
       gains nos o x q some short alike fits right k =
-          let space : length acc + length sec + length x ≤ length (acc ++ (sec ++ rest)) = simp length-append (omega arith) in
           back (hit nos o (arrives x)) _ (Ex q s l acc (sec ++ x) (drop (length x) rest) radio (t ++ (hit nos o (arrives x) ∷ [])) u RA.Running)
           (ap (taken (Ex (hit nos o (arrives x) ∷ q) s l acc sec rest radio t u v) (hit nos o (arrives x)) q)
           (receiver-hears m s l _ _ _ x _ _ room (m .sound t (hit nos o (arrives x))) refl refl
           (simp (alike, eq-eqb (length o) (length o) refl, le-leb 1 (length o) some, le-leb (length o) (segmentLimit (m .provider-station .sizes)) short)) right)
-          ∙ simp (le-leb _ _ space, written-after acc sec rest x, length-append sec x, append-nil)) refl
+          ∙ simp (segment-taken (R m (S.Frame s) l (length acc) (length sec)) acc sec rest refl refl x (omega arith), length-append sec x, append-nil)) refl
           (k _ (adds t (hit nos o (arrives x))))

@@ -2,7 +2,7 @@
 use Prim.Native.Nat.{ℕ, zero, suc, _+_, _*_, _≤_, _<_}
 use mathlib.Core.Path.{_≡_, refl, subst}
 use mathlib.Core.Bool.{true, false}
-use mathlib.Core.List.{List, [], _∷_}
+use mathlib.Core.List.{[], _∷_}
 use native.Mathlib.Omega.{arith}
 use native.Mathlib.Nat.{zero-mul}
 use lib.Dec.{leb}
@@ -12,22 +12,18 @@ use Rattle.laws.specs.When.{when, _and_}
 use Rattle.lists.specs.Parts.{parts}
 use Rattle.asdu.specs.Sizes.{within, sizesRight, headerLen, elementRoom, segmentLimit}
 use Rattle.asdu.proofs.Range.{both}
-use Rattle.asdu.specs.Elements.{scqInRange}
 use Rattle.asdu.specs.declared.file.Nos.{Nos}
 use Rattle.asdu.specs.declared.file.Lof.{Lof}
 use Rattle.asdu.specs.declared.sizes.AddressSizes.{AddressSizes}
 use Rattle.frame.specs.declared.Frame.the-variants as F
 use Rattle.frame.specs.Answers.{answersTo, namesAgree, calledSection, scAnswered, fileAnswered}
-use Rattle.ft.specs.Directions.{usesFunction}
 use Rattle.ft.specs.Procedure.{settled, addressRight}
-use Rattle.ft.specs.Building.{built}
-use Rattle.provide.specs.Sections.{sectionLength, sectionCount, sections}
+use Rattle.provide.specs.Sections.{sections}
 use Rattle.provide.specs.Replies.{fileReady}
-use Rattle.provide.specs.Requests.{onSc}
 use Rattle.provide.specs.declared.Reply.the-variants.{Nothing, FileReady, SectionReady}
 use Rattle.provide.specs.declared.ProviderAnswer.the-variants as PA
+use Rattle.provide.proofs.Facts.{selects-file, requests-file}
 use Rattle.provide.proofs.Sections.{some-section}
-use Rattle.receive.specs.Record.{started}
 use Rattle.receive.specs.Answers.{onFileReady}
 use Rattle.receive.specs.declared.Sent.the-variants as S
 use Rattle.receive.specs.declared.Length.the-variants.{Unknown, Known}
@@ -75,13 +71,13 @@ module _ (m : Transfer) where
       → 2 + suc c + sendingFrames (limit m) (parts (suc c) (size m) (m .file)) (m .radio) ≡ providerFrames m
       → 3 + 2 * suc c + damagedSendings (m .radio) ≡ receiverFrames m
       → Ends m (Ex m (ask m (sc m 1 none) ∷ []) (sc m 1 none) Unknown [] [] (m .store) (inOrder (m .radio)) [] (PA.Running Nothing) (RA.Send (sc m 1 none)))
-  unfolding onSc onFileReady Pass when
+  unfolding onFileReady Pass when
   opens c e hit na mb =
-      asked-sc m (sc m 1 none) Unknown [] [] (m .store) (inOrder (m .radio)) [] _ _ none 1 FileReady refl refl
+      asked-sc m (sc m 1 none) Unknown [] [] (m .store) (inOrder (m .radio)) [] _ _ none 1 FileReady refl (selects-file (P m) none 0)
       (λ t₁ d₁. takes m (sc m 1 none) Unknown [] [] (m .store) (inOrder (m .radio)) t₁ _ _ (fileReady (P m)) []
       (λ t′. Ex m (ask m (sc m 2 none) ∷ []) (sc m 2 none) (Known (length (m .file))) [] [] (m .store) (inOrder (m .radio)) t′ (PA.Running FileReady) (RA.Send (sc m 2 none)))
       refl refl (simp (le-leb (length (m .file)) 0xFFFFFF (short m))) (offers _) refl
-      (λ t₂ d₂. asked-sc m (sc m 2 none) (Known (length (m .file))) [] [] (m .store) (inOrder (m .radio)) t₂ _ _ none 2 (SectionReady (number m 0)) refl refl
+      (λ t₂ d₂. asked-sc m (sc m 2 none) (Known (length (m .file))) [] [] (m .store) (inOrder (m .radio)) t₂ _ _ none 2 (SectionReady (number m 0)) refl (requests-file (P m) none 0)
       (λ t₃ d₃. sections-pass m wide c 0 (m .radio) [] (m .file) (m .store) t₃ _ _ (sc m 2 none)
       (omega arith) (rw zero-mul) refl (m .room) refl awaits-first hit (omega arith) (omega arith))))
 

@@ -9,7 +9,6 @@ use Rattle.frame.specs.Frames.{typeOf}
 use Rattle.ft.specs.Procedure.{conventional}
 use Rattle.ft.specs.Building.{headerOf}
 use Rattle.ft.specs.declared.direction.Role.{Role}
-use Rattle.ft.specs.declared.direction.Role.the-variants.{Controlling, Controlled}
 use Rattle.ft.specs.declared.procedure.FileTransferProcedure.{FileTransferProcedure}
 use Rattle.provide.specs.Sections.{sections}
 use Rattle.exchange.specs.Exchange.{Side, byProvider, byReceiver, Passing, Headers}

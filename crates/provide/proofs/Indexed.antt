@@ -1,23 +1,21 @@
 -- A reply by count and index is the list of its frames.
-use Prim.Native.Nat.{ℕ, zero, suc, _+_, _*_, _≤_, _<_}
+use Prim.Native.Nat.{ℕ, zero, suc, _+_, _≤_, _<_}
 use mathlib.Core.Path.{_≡_, refl, ap, _∙_}
 use mathlib.Core.Bool.{true}
-use mathlib.Core.List.{List, [], _∷_, _++_, map}
+use mathlib.Core.List.{List, [], _∷_, map}
 use native.Mathlib.Omega.{arith}
 use native.Mathlib.Decide.{decLt}
-use lib.Dec.{eqb·suc-zero}
-use lib.ListN.{length, take, drop, getD, length-append, length-map, List·getD-append, List·getD-map}
+use lib.ListN.{length, getD, length-append, length-map, List·getD-append, List·getD-map}
 use lib.Seq.{getD-at}
 use borrow.Author.Tests.{lt-ltb, le-ltb, eq-eqb, ne-eqb}
 use Rattle.laws.specs.When.{when}
-use Rattle.lists.specs.Parts.{divCeil, parts}
 use Rattle.lists.proofs.Parts.{length-parts, part-at}
 use Rattle.asdu.specs.declared.file.Nos.{Nos}
 use Rattle.asdu.specs.declared.error.FtError.the-variants as E
 use Rattle.frame.specs.declared.Frame.{Frame}
 use Rattle.provide.specs.Sections.{segments, segmentOctets}
 use Rattle.provide.specs.Record.{fileAgrees}
-use Rattle.provide.specs.Replies.{Packet, bare, octetsOf, limitOf, segmentFrame, segmentPacket, closeFrame, replies, segmentCount, countOf, replyCount, only, segmentOf, sectionFrame, frameAt, replyFrame, sectionPayload, payloadAt}
+use Rattle.provide.specs.Replies.{Packet, bare, octetsOf, limitOf, segmentPacket, closeFrame, replies, segmentCount, countOf, replyCount, only, segmentOf, sectionFrame, frameAt, replyFrame, sectionPayload, payloadAt}
 use Rattle.provide.specs.declared.Provider.{Provider}
 use Rattle.provide.specs.declared.Reply.{Reply}
 use Rattle.provide.specs.declared.Reply.the-variants.{Nothing, FileReady, SectionReady, Section, FileClose}

@@ -1,4 +1,5 @@
 pub mod Sections
+pub mod Facts
 pub mod Making
 pub mod Refusals
 pub mod Indexed

@@ -1,12 +1,12 @@
 -- What a making that accepts says of its arguments, and that its record agrees with its file.
 use Prim.Native.Nat.{ℕ, _≤_}
-use mathlib.Core.Path.{_≡_, refl, sym, ap}
+use mathlib.Core.Path.{_≡_, refl}
 use mathlib.Core.Bool.{Bool, true, false}
 use mathlib.Core.List.{List}
-use lib.Dec.{eqb, leb}
+use lib.Dec.{leb}
 use lib.ListN.{length}
 use borrow.Author.Tests.{leb-true, le-leb, eq-eqb}
-use Rattle.laws.specs.When.{when, unless, _and_}
+use Rattle.laws.specs.When.{when, unless}
 use Rattle.asdu.specs.Sizes.{sizesRight, maxIoa}
 use Rattle.asdu.proofs.Range.{both}
 use Rattle.asdu.specs.declared.file.Nof.{Nof}

@@ -1,14 +1,14 @@
 -- A file's sections: at least one, at most 255, and together the file.
-use Prim.Native.Nat.{ℕ, suc, _+_, _-_, _*_, _≤_, _<_, max}
-use mathlib.Core.Path.{_≡_, refl, ap, _∙_}
+use Prim.Native.Nat.{ℕ, suc, _-_, _*_, _≤_, _<_, max}
+use mathlib.Core.Path.{_≡_, _∙_}
 use mathlib.Core.List.{List, []}
 use native.Mathlib.Omega.{arith}
 use native.Mathlib.Nat.{le-trans, mul-le-mul-right, lt-of-mul-lt-mul-right}
-use lib.Dec.{eqb, eqb·suc-zero}
+use lib.Dec.{eqb·suc-zero}
 use lib.ListN.{length, take, drop, getD}
 use lib.Seq.{take-all}
 use Rattle.laws.specs.When.{when}
-use Rattle.lists.specs.Parts.{divCeil, parts, joined}
+use Rattle.lists.specs.Parts.{divCeil, joined}
 use Rattle.lists.proofs.Parts.{ceil-enough, ceil-least, joined-parts, part-at}
 use Rattle.provide.specs.Sections.{sectionLength, sectionCount, sections, sectionOctets}
 

@@ -1,11 +1,8 @@
 -- The table theorem: document 01's written values are those of the definitions.
-use Prim.Native.Nat.{ℕ, _+_, _-_, min}
-use mathlib.Core.Path.{_≡_, refl}
-use mathlib.Core.List.{[], _∷_}
-use lib.ListN.{length}
+use mathlib.Core.Path.{refl}
 use Rattle.laws.specs.When.{when}
 use Rattle.lists.specs.Parts.{divCeil}
-use Rattle.asdu.specs.Sizes.{headerLen, elementRoom, segmentLimit}
+use Rattle.asdu.specs.Sizes.{elementRoom, segmentLimit}
 use Rattle.ft.specs.Checksum.{octetSum, checksum}
 use Rattle.provide.specs.Sections.{sectionLength, sectionCount, sections}
 use Rattle.provide.specs.Record.{providerMade}

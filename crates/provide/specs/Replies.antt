@@ -1,6 +1,6 @@
 -- The frames that a Provider sends: a reply as the list of them, and as a count with a frame for each index below it (document 01, The Provider's record).
 use Prim.Native.Nat.{ℕ, _+_}
-use mathlib.Core.Bool.{true, false}
+use mathlib.Core.Bool.{false}
 use mathlib.Core.List.{List, [], _∷_, _++_, map}
 use lib.Dec.{eqb, ltb}
 use lib.ListN.{length}

@@ -1,3 +1,4 @@
 pub mod Making
 pub mod Refusals
 pub mod Store
+pub mod Facts
