@@ -8,7 +8,7 @@ use lib.Dec.{leb}
 use lib.ListN.{length}
 use borrow.Author.Tests.{le-leb, eq-eqb, ne-eqb}
 use Rattle.laws.specs.When.{when}
-use Rattle.asdu.specs.Sizes.{sizesRight, maxIoa, maxCommonAddress}
+use Rattle.asdu.specs.Sizes.{maxIoa, maxCommonAddress}
 use Rattle.asdu.specs.Elements.{scqInRange, afqInRange}
 use Rattle.asdu.specs.Header.{isMirror}
 use Rattle.asdu.specs.declared.file.Nos.{Nos}
@@ -21,8 +21,7 @@ use Rattle.frame.specs.Frames.{typeOf, causeOf, receiverSide, ioaOf, isFileType
 use Rattle.frame.specs.Ranges.{valuesInRange}
 use Rattle.frame.specs.Answers.{answersTo}
 use Rattle.ft.specs.Directions.{otherRole, usesFunction}
-use Rattle.ft.specs.Procedure.{settled, addressRight}
-use Rattle.ft.specs.Building.{addressed, framed, built}
+use Rattle.ft.specs.Procedure.{settled}
 use Rattle.ft.specs.Admission.{serves, frameAgrees, admitFrame, onAsdu, answered, onAnswer}
 use Rattle.ft.specs.declared.direction.Role.{Role}
 use Rattle.ft.specs.declared.direction.Role.the-variants.{Controlling, Controlled}
@@ -34,7 +33,6 @@ use Rattle.provide.specs.Requests.{onSc, onAck, isOurs, onRequest, provide}
 use Rattle.provide.specs.declared.Provider.{Provider}
 use Rattle.provide.proofs.Facts.{request-heard, ours-heard}
 use Rattle.provide.proofs.Making as PM
-use Rattle.asdu.proofs.Range.{both}
 use Rattle.receive.specs.Record.{storeAgrees, awaited, select, stepped, started}
 use Rattle.receive.specs.declared.ReceiverAnswer.the-variants as RA
 use Rattle.receive.specs.Answers.{onAnswered, receive}
@@ -45,6 +43,7 @@ use Rattle.receive.specs.declared.Length.{Length}
 use Rattle.receive.specs.declared.Length.the-variants.{Unknown}
 use Rattle.receive.proofs.Facts.{answer-heard}
 use Rattle.receive.proofs.Making as RM
+use Rattle.receive.proofs.Starting.{started-is}
 use Rattle.exchange.specs.Transfer.{Sound, Transfer}
 
 file-type : (f : Frame) → isFileType (typeOf f) ≡ true
@@ -182,14 +181,7 @@ module _ (m : Transfer) where
   -- the Receiver's start
   pub starts : started (R S.Nothing Unknown 0 0) (m .store)
       ≡ stepped (R (S.Frame (select (R S.Nothing Unknown 0 0))) Unknown 0 0) (RA.Send (select (R S.Nothing Unknown 0 0)))
-  unfolding started built framed addressed settled scqInRange when
+  unfolding when
   starts =
-      let b = both (sizesRight (m .receiver-station .sizes)) (addressRight (m .receiver-station .sizes) (m .receiver-station .ca) (m .receiver-station .org)) (receiver-facts .settings) in
-      simp (
-        holds S.Nothing Unknown 0 0 (m .store) (omega arith),
-        b .0,
-        b .1,
-        uses (m .receiver-station) (m .receiver-station .role) true (m .receiver-serves),
-        m .receiver-serves,
-        receiver-facts .object,
-      )
+      started-is (R S.Nothing Unknown 0 0) (m .store) (holds S.Nothing Unknown 0 0 (m .store) (omega arith))
+      ∙ simp (uses (m .receiver-station) (m .receiver-station .role) true (m .receiver-serves), m .receiver-serves)

@@ -5,7 +5,7 @@ use mathlib.Core.Bool.{Bool, true, false}
 use mathlib.Core.List.{List}
 use lib.Dec.{leb}
 use lib.ListN.{length}
-use borrow.Author.Tests.{leb-true, le-leb, eq-eqb}
+use borrow.Author.Tests.{leb-true, le-leb, eq-eqb, eqb-true}
 use Rattle.laws.specs.When.{when, unless}
 use Rattle.asdu.specs.Sizes.{sizesRight, maxIoa}
 use Rattle.asdu.proofs.Range.{both}
@@ -53,3 +53,20 @@ pub made-agrees : (p : FileTransferProcedure) (ioa : ℕ) (nof : Nof) (file : Li
 unfolding fileAgrees when
 made-agrees p ioa nof file x m =
     rw (m .fresh) (simp (m .settings, m .object, le-leb _ _ (m .short), eq-eqb (length file) (length file) refl, eq-eqb (sectionLength (length file)) (sectionLength (length file)) refl))
+
+-- what the agreement of a record and a file says
+pub record Agrees (p : Provider) (file : List ℕ) : Type 0 where
+  pub settings : settled (p .procedure) ≡ true
+  pub object : leb (p .ioa) (maxIoa (p .procedure .sizes)) ≡ true
+  pub short : leb (p .length) 0xFFFFFF ≡ true
+  pub length : p .length ≡ length file
+  pub section : p .«section_len» ≡ sectionLength (p .length)
+
+pub agrees : (p : Provider) (file : List ℕ) → fileAgrees p file ≡ true → Agrees p file
+unfolding fileAgrees
+agrees p file e =
+    let s = both _ _ e in
+    let o = both _ _ (s .1) in
+    let h = both _ _ (o .1) in
+    let l = both _ _ (h .1) in
+    record { settings = s .0; object = o .0; short = h .0; length = eqb-true _ _ (l .0); section = eqb-true _ _ (l .1) }
