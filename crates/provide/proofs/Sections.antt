@@ -1,16 +1,18 @@
 -- A file's sections: at least one, at most 255, and together the file.
 use Prim.Native.Nat.{ℕ, suc, _-_, _*_, _≤_, _<_, max}
 use mathlib.Core.Path.{_≡_, _∙_}
+use mathlib.Core.Bool.{false}
 use mathlib.Core.List.{List, []}
 use native.Mathlib.Omega.{arith}
 use native.Mathlib.Nat.{le-trans, mul-le-mul-right, lt-of-mul-lt-mul-right}
-use lib.Dec.{eqb·suc-zero}
+use lib.Dec.{eqb, eqb·suc-zero}
 use lib.ListN.{length, take, drop, getD}
 use lib.Seq.{take-all}
+use borrow.Author.Tests.{ne-eqb}
 use Rattle.laws.specs.When.{when}
 use Rattle.lists.specs.Parts.{divCeil, joined}
-use Rattle.lists.proofs.Parts.{ceil-enough, ceil-least, joined-parts, part-at}
-use Rattle.provide.specs.Sections.{sectionLength, sectionCount, sections, sectionOctets}
+use Rattle.lists.proofs.Parts.{ceil-enough, ceil-least, joined-parts, part-at, part-of-part}
+use Rattle.provide.specs.Sections.{sectionLength, sectionCount, sections, sectionOctets, segmentOctets, segmentStart}
 
 pub some-section : (n : ℕ) → 0 < sectionCount n
 unfolding sectionCount
@@ -47,3 +49,12 @@ pub section-named : (file : List ℕ) (j : ℕ) → j < sectionCount (length fil
     → sectionOctets (sectionLength (length file)) file (suc j) ≡ getD (sections file) j []
 unfolding sections
 section-named file j h = rw (section-from (sectionLength (length file)) j file, part-at (sectionCount (length file)) (sectionLength (length file)) file j h)
+
+-- a segment of section nos is the part of the file that begins there, of the segment's length
+pub segment-part : (size limit : ℕ) (file : List ℕ) (nos i : ℕ) → 1 ≤ nos
+    → segmentOctets limit (sectionOctets size file nos) i
+    ≡ take (length (segmentOctets limit (sectionOctets size file nos) i)) (drop (segmentStart size limit nos i) file)
+unfolding sectionOctets segmentOctets segmentStart when
+segment-part size limit file nos i h =
+    let named : eqb nos 0 ≡ false = ne-eqb nos 0 (λ e. omega arith) in
+    simp named (part-of-part ((nos - 1) * size) size (i * limit) limit file)

@@ -1,5 +1,5 @@
 -- How a file is cut: sections that count from 1 (IEC 60870-5-101, 7.2.6.34), and segments that a frame can carry (document 01, The Provider's record).
-use Prim.Native.Nat.{ℕ, _-_, _*_, max}
+use Prim.Native.Nat.{ℕ, _+_, _-_, _*_, max}
 use mathlib.Core.List.{List, []}
 use lib.Dec.{eqb}
 use lib.ListN.{length, take, drop}
@@ -29,3 +29,7 @@ segments limit section = parts (divCeil (length section) limit) limit section
 -- segment i of a section
 unfoldable pub segmentOctets : ℕ → List ℕ → ℕ → List ℕ
 segmentOctets limit section i = take limit (drop (i * limit) section)
+
+-- where it begins in the file
+unfoldable pub segmentStart : ℕ → ℕ → ℕ → ℕ → ℕ
+segmentStart size limit nos i = (nos - 1) * size + i * limit
