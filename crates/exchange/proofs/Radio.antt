@@ -1,0 +1,60 @@
+-- Where a sending begins: on a section request and on a negative section acknowledgement, and nowhere else.
+use Prim.Native.Nat.{ℕ}
+use mathlib.Core.Path.{_≡_, refl, sym, _∙_}
+use mathlib.Core.Bool.{Bool, true, false}
+use lib.Dec.{eqb}
+use borrow.Author.Tests.{eqb-true}
+use Rattle.laws.specs.When.{when}
+use Rattle.laws.proofs.Decide.{eqb-at}
+use Rattle.asdu.specs.declared.file.Nos.{Nos}
+use Rattle.asdu.specs.declared.file.Scq.{Scq}
+use Rattle.asdu.specs.declared.file.Afq.{Afq}
+use Rattle.provide.specs.Requests.{after, onSc, onAck}
+use Rattle.provide.specs.declared.Provider.{Provider}
+use Rattle.provide.specs.declared.ProviderStep.{ProviderStep}
+use Rattle.provide.specs.declared.Reply.{Reply}
+use Rattle.exchange.specs.Exchange.{isSection, isSending}
+
+abbrev begins : ProviderStep → Bool
+begins s = isSending (s .answer)
+
+-- a step for another action than n, before the rest of a chain
+passed-over : (a k n : ℕ) (x y : ProviderStep) → eqb k n ≡ false → begins x ≡ false → begins y ≡ eqb a n → begins (when (eqb a k) x y) ≡ eqb a n
+unfolding when
+passed-over a k n x y other none rest = by-test (eqb a k) refl
+  where
+    by-test : (b : Bool) → eqb a k ≡ b → begins (when b x y) ≡ eqb a n
+    by-test true e = none ∙ sym (eqb-at a k n (eqb-true a k e) other)
+    by-test false e = rest
+
+-- the step for n
+chosen : (b : Bool) (x y : ProviderStep) → begins x ≡ true → begins y ≡ false → begins (when b x y) ≡ b
+unfolding when
+chosen true x y yields none = yields
+chosen false x y yields none = none
+
+neither : (b : Bool) (x y : ProviderStep) → begins x ≡ false → begins y ≡ false → begins (when b x y) ≡ false
+unfolding when
+neither true x y none rest = none
+neither false x y none rest = rest
+
+no-section : (b : Bool) (x y : Reply) → isSection x ≡ false → isSection y ≡ false → isSection (when b x y) ≡ false
+unfolding when
+no-section true x y none rest = none
+no-section false x y none rest = rest
+
+ready-or-close : (p : Provider) (nos : Nos) → isSection (after p nos) ≡ false
+unfolding after
+ready-or-close p nos = no-section _ _ _ refl refl
+
+module _ (p : Provider) (nos : Nos) where
+  pub request-begins : (q : Scq) → isSending (onSc p nos q .answer) ≡ eqb (q .action) 6
+  unfolding onSc
+  request-begins q =
+      passed-over (q .action) 1 6 _ _ refl refl
+      (passed-over (q .action) 2 6 _ _ refl refl (passed-over (q .action) 5 6 _ _ refl refl (chosen (eqb (q .action) 6) _ _ refl refl)))
+
+  pub acknowledgement-begins : (q : Afq) → isSending (onAck p nos q .answer) ≡ eqb (q .action) 4
+  unfolding onAck
+  acknowledgement-begins q =
+      passed-over (q .action) 3 4 _ _ refl (ready-or-close p nos) (chosen (eqb (q .action) 4) _ _ refl (neither (eqb (q .action) 1) _ _ refl refl))

@@ -1,0 +1,233 @@
+-- The sections in turn, and the end.
+use Prim.Native.Nat.{ℕ, zero, suc, _+_, _*_, _≤_, _<_}
+use mathlib.Core.Path.{_≡_, refl, sym, ap, _∙_}
+use mathlib.Core.Bool.{true, false}
+use mathlib.Core.List.{List, [], _∷_, _++_, append-assoc}
+use native.Mathlib.Omega.{arith}
+use native.Mathlib.Numerals.{add-one}
+use native.Mathlib.Nat.{suc-mul}
+use lib.ListN.{length, take, drop, length-append, length-drop, length-take, take-append-drop}
+use lib.Seq.{take-all, drop-drop}
+use borrow.Author.Tests.{le-leb, eq-eqb}
+use Rattle.laws.specs.When.{when}
+use Rattle.lists.specs.Parts.{divCeil, parts}
+use Rattle.asdu.specs.declared.file.Nos.{Nos}
+use Rattle.asdu.specs.declared.file.Lof.{Lof}
+use Rattle.asdu.specs.declared.file.Lsq.{Lsq}
+use Rattle.asdu.specs.declared.file.Chs.{Chs}
+use Rattle.frame.specs.declared.Frame.{Frame}
+use Rattle.frame.specs.declared.Frame.the-variants as F
+use Rattle.frame.specs.Answers.{answersTo, namesAgree, ackAnswered, oneOf}
+use Rattle.ft.specs.Checksum.{checksum}
+use Rattle.provide.specs.Sections.{sectionLength, sectionCount}
+use Rattle.provide.specs.Replies.{octetsOf, sectionReady, closeFrame}
+use Rattle.provide.specs.Requests.{replying, onAck}
+use Rattle.provide.specs.declared.Reply.the-variants.{SectionReady, Section, FileClose}
+use Rattle.provide.specs.declared.ProviderAnswer.{ProviderAnswer}
+use Rattle.provide.proofs.Facts.{requests-section, next-section, no-section, file-accepted}
+use Rattle.provide.proofs.Sections.{enough, section-from}
+use Rattle.receive.proofs.Facts as RF
+use Rattle.receive.specs.Record.{withState}
+use Rattle.receive.specs.Answers.{onSectionReady, onClose}
+use Rattle.receive.specs.declared.Sent.the-variants as S
+use Rattle.receive.specs.declared.Length.{Length}
+use Rattle.receive.specs.declared.Length.the-variants.{Known}
+use Rattle.receive.specs.declared.ReceiverAnswer.{ReceiverAnswer}
+use Rattle.receive.specs.declared.ReceiverAnswer.the-variants as RA
+use Rattle.exchange.specs.Exchange.{byProvider, byReceiver, Fate, Passing, flown, Exchange, provided, sentBy}
+use Rattle.exchange.specs.Transfer.{Transfer, Sendings, AllDamaged, Intact, arrived, Radio, inOrder, sendingFrames, damagedSendings, providerFrames, receiverFrames}
+use Rattle.exchange.proofs.Hearing.{P, R, short, provider-fresh, receiver-fresh, hears-ack}
+use Rattle.exchange.proofs.Steps.{Adds, adds, Ends, Ex, sc, ack, ask, tell, back, asked-sc, asked-ack, takes}
+use Rattle.exchange.proofs.Sendings.{limit, Heard, packets, sending-passes, accepts, heard-call, damaged-pass}
+
+module _ (m : Transfer) where
+  -- what was asked is answered by the section that is ready
+  abbrev pub Awaits : Frame → Nos → Type 0
+  Awaits s nos = (x : Lof) → answersTo s (F.SectionReady (m .object) (m .name) nos x (record { value = 0; «not_ready» = false })) ≡ true
+
+  -- ---- one section, from its announcement to its acceptance
+
+  module _ (wide : 0 < limit m) (l : Length) (nos : Nos) (acc o : List ℕ) (is : octetsOf (P m) (m .file) nos ≡ o) (small : length o ≤ 0xFFFFFF)
+      (x : Sendings) (bad : AllDamaged (limit m) o (x .damaged)) (good : Intact (limit m) o (x .intact)) where
+    -- its last sending
+    intact-passes : (radio : List (List Fate)) (s : Frame) (rest : List ℕ) (t : List Passing) (u : ProviderAnswer) (v : ReceiverAnswer) → Heard m s nos → length o ≤ length rest
+        → ((t′ : List Passing) → Adds t t′ (divCeil (length o) (limit m) + 1) 0
+        → Ends m (Ex m (ask m (ack m 3 nos) ∷ []) (ack m 3 nos) l (acc ++ o) [] (drop (length o) rest) radio t′ u (RA.Send (ack m 3 nos))))
+        → Ends m (Ex m (flown (x .intact) (packets m nos o)) s l acc [] rest radio t u v)
+    intact-passes radio s rest t u v heard fits k =
+        sending-passes m wide l nos acc o radio s (x .intact) rest t u v heard (good .0) fits
+        (λ t′ v′ d. accepts m wide l nos acc o s heard (arrived (x .intact)) (drop (length (arrived (x .intact))) rest) radio t′ u v′ (ap checksum (good .1))
+        (λ t″ d′. rw (good .1) (k t″ (omega arith))))
+
+    pub section-passes : (radio : List (List Fate)) (s : Frame) (rest : List ℕ) (t : List Passing) (u : ProviderAnswer) (v : ReceiverAnswer) → Awaits s nos → length o ≤ length rest
+        → ((t′ : List Passing) (u′ : ProviderAnswer) → Adds t t′ (1 + (1 + length (x .damaged)) * (divCeil (length o) (limit m) + 1)) (1 + length (x .damaged))
+        → Ends m (Ex m (ask m (ack m 3 nos) ∷ []) (ack m 3 nos) l (acc ++ o) [] (drop (length o) rest) radio t′ u′ (RA.Send (ack m 3 nos))))
+        → Ends m (Ex m (tell m (sectionReady (P m) (m .file) nos) ∷ []) s l acc [] rest (x .damaged ++ (x .intact ∷ radio)) t u v)
+    unfolding onSectionReady when
+    section-passes radio s rest t u v awaits fits k =
+        takes m s l acc [] rest _ t u v _ []
+        (λ t′. Ex m (ask m (sc m 6 nos) ∷ []) (sc m 6 nos) l acc [] rest (x .damaged ++ (x .intact ∷ radio)) t′ u (RA.Send (sc m 6 nos)))
+        refl refl (simp (is, le-leb (length o) 0xFFFFFF small)) (awaits _) refl
+        (λ t₁ d₁. asked-sc m (sc m 6 nos) l acc [] rest _ t₁ u _ nos 6 (Section nos) refl (requests-section (P m) nos 0)
+        (λ t₂ d₂. rw is
+        (damaged-pass m wide l nos acc o is (x .intact) radio (x .damaged) (sc m 6 nos) rest t₂ _ _ (heard-call m nos) bad fits
+        (λ s′ rest′ t₃ u′ v′ heard e b d₃.
+        intact-passes radio s′ rest′ t₃ u′ v′ heard (rw e fits) (λ t₄ d₄. rw b (k t₄ u′ (omega arith)))))))
+
+  abbrev pub size : ℕ
+  size = sectionLength (length (m .file))
+
+  abbrev pub count : ℕ
+  count = sectionCount (length (m .file))
+
+  abbrev pub number : ℕ → Nos
+  number j = record { value = suc j }
+
+  -- ---- what a positive acknowledgement is followed by
+
+  next : (j : ℕ) → suc j < count → onAck (P m) (number j) (record { action = 3; error = 0 }) ≡ replying (P m) (SectionReady (number (suc j)))
+  next j h = next-section (P m) (number j) 0 h ∙ rw (add-one (suc j))
+
+  none-next : (j : ℕ) → suc j ≡ count → onAck (P m) (number j) (record { action = 3; error = 0 }) ≡ replying (P m) (FileClose (number j))
+  none-next j e = no-section (P m) (number j) 0 (omega arith)
+
+  awaits-next : (nos nos′ : Nos) → Awaits (ack m 3 nos) nos′
+  unfolding answersTo namesAgree ackAnswered oneOf when
+  awaits-next nos nos′ x = simp (eq-eqb (m .object) (m .object) refl, eq-eqb (m .name .value) (m .name .value) refl)
+
+  closes-file : (nos : Nos) (q : Lsq) (c : Chs) → answersTo (ack m 3 nos) (F.LastSection (m .object) (m .name) nos q c) ≡ true
+  unfolding answersTo namesAgree ackAnswered oneOf when
+  closes-file nos q c = simp (eq-eqb (m .object) (m .object) refl, eq-eqb (m .name .value) (m .name .value) refl)
+
+  -- ---- the file's close, its acknowledgement, and the end
+
+  -- the Receiver has ended
+  abbrev closed : Nos → List ℕ → List (List Fate) → ProviderAnswer → List Passing → Exchange
+  closed nos rest radio u t =
+      record {
+        queue = ask m (ack m 1 nos) ∷ [];
+        provider = P m;
+        receiver = withState (R m S.Nothing (Known 0) 0 0) (S.Frame (ack m 1 nos)) (Known (length (m .file))) (length (m .file)) 0 true;
+        store = m .file ++ rest;
+        radio = radio;
+        passed = t;
+        providerSaid = u;
+        receiverSaid = RA.Complete (ack m 1 nos) (length (m .file));
+      }
+
+  ends : (nos : Nos) (rest : List ℕ) (radio : List (List Fate)) (u : ProviderAnswer) (t : List Passing)
+      → nos ≡ record { value = count } → rest ≡ drop (length (m .file)) (m .store)
+      → sentBy byProvider t ≡ providerFrames m → sentBy byReceiver t + 1 ≡ receiverFrames m → Ends m (closed nos rest radio u t)
+  ends nos rest radio u t last behind na mb =
+      back m (ask m (ack m 1 nos)) (closed nos rest radio u t) _
+      (ap (provided (m .file) (closed nos rest radio u t) (ask m (ack m 1 nos)) []) (hears-ack m _ nos 1 refl (m .sound t (ask m (ack m 1 nos))) ∙ file-accepted (P m) nos 0)) refl (
+        0,
+        omega (arith, adds t (ask m (ack m 1 nos))),
+        record {
+          over = refl;
+          provider-complete = refl;
+          provider-ended = rw (provider-fresh m);
+          receiver-complete = rw (receiver-fresh m, last);
+          receiver-ended = rw (receiver-fresh m, last);
+          stored = rw behind;
+          provider-sent = omega (arith, adds t (ask m (ack m 1 nos)));
+          receiver-sent = omega (arith, adds t (ask m (ack m 1 nos)));
+        },
+      )
+
+  finish : (nos : Nos) (rest : List ℕ) (radio : List (List Fate)) (t : List Passing) (u : ProviderAnswer) (v : ReceiverAnswer)
+      → nos ≡ record { value = count } → rest ≡ drop (length (m .file)) (m .store)
+      → sentBy byProvider t + 1 ≡ providerFrames m → sentBy byReceiver t + 1 ≡ receiverFrames m
+      → Ends m (Ex m (tell m (closeFrame (P m) nos 1 (m .file)) ∷ []) (ack m 3 nos) (Known (length (m .file))) (m .file) [] rest radio t u v)
+  unfolding onClose when
+  finish nos rest radio t u v last behind na mb =
+      takes m (ack m 3 nos) (Known (length (m .file))) (m .file) [] rest radio t u v _ [] (closed nos rest radio u) refl refl refl (closes-file nos _ _)
+      (simp (RF.file-accepted (R m (S.Frame (ack m 3 nos)) (Known (length (m .file))) (length (m .file)) 0) (m .file) [] rest refl refl nos (record { value = checksum (m .file) }) refl))
+      (λ t′ d. ends nos rest radio u t′ last behind (omega arith) (omega arith))
+
+  -- ---- the sections in turn: acc is accepted, rem is left of the file, and section j + 1 is announced
+
+  octets-at : (j : ℕ) (rem : List ℕ) → drop (j * size) (m .file) ≡ rem → octetsOf (P m) (m .file) (number j) ≡ take size rem
+  octets-at j rem e = section-from size j (m .file) ∙ ap (take size) e
+
+  last-fits : (j : ℕ) (rem : List ℕ) → suc j ≡ count → drop (j * size) (m .file) ≡ rem → length rem ≤ size
+  last-fits j rem e is =
+      omega (arith, simp length-drop at (ap length is), enough (length (m .file)), ap (λ (k : ℕ). k * size) e)
+
+  -- what is behind the file in the store
+  abbrev beyond : List ℕ
+  beyond = drop (length (m .file)) (m .store)
+
+  module _ (wide : 0 < limit m) (j : ℕ) (x : Sendings) (acc rem rest : List ℕ) (t : List Passing) (u : ProviderAnswer) (v : ReceiverAnswer) (s : Frame)
+      (is : drop (j * size) (m .file) ≡ rem) (kept : acc ++ rem ≡ m .file) (fits : length rem ≤ length rest) (behind : drop (length rem) rest ≡ beyond)
+      (awaits : Awaits s (number j)) (bad : AllDamaged (limit m) (take size rem) (x .damaged)) (good : Intact (limit m) (take size rem) (x .intact)) where
+    small : length (take size rem) ≤ 0xFFFFFF
+    small = simp length-take (omega (arith, simp length-append at (ap length kept), short m))
+
+    -- the Provider's frames of this section
+    abbrev mine : ℕ
+    mine = (1 + length (x .damaged)) * (divCeil (length (take size rem)) (limit m) + 1)
+
+    -- a section that is followed by another
+    one-passes : (radio : List (List Fate)) → suc j < count
+        → ((t′ : List Passing) (u′ : ProviderAnswer) (v′ : ReceiverAnswer) → Adds t t′ (1 + mine) (2 + length (x .damaged))
+        → Ends m (Ex m (tell m (sectionReady (P m) (m .file) (number (suc j))) ∷ []) (ack m 3 (number j)) (Known (length (m .file))) (acc ++ take size rem) []
+        (drop (length (take size rem)) rest) radio t′ u′ v′))
+        → Ends m (Ex m (tell m (sectionReady (P m) (m .file) (number j)) ∷ []) s (Known (length (m .file))) acc [] rest (x .damaged ++ (x .intact ∷ radio)) t u v)
+    one-passes radio more k =
+        section-passes wide (Known (length (m .file))) (number j) acc (take size rem) (octets-at j rem is) small x bad good radio s rest t u v awaits (simp length-take (omega arith))
+        (λ t₁ u′ d₁. asked-ack m (ack m 3 (number j)) (Known (length (m .file))) (acc ++ take size rem) [] (drop (length (take size rem)) rest) radio t₁ u′ _ (number j) 3 (SectionReady (number (suc j))) refl (next j more)
+        (λ t₂ d₂. k t₂ _ _ (omega arith)))
+
+    -- the last one
+    last-passes : suc j ≡ count → sentBy byProvider t + (2 + mine) ≡ providerFrames m → sentBy byReceiver t + (3 + length (x .damaged)) ≡ receiverFrames m
+        → Ends m (Ex m (tell m (sectionReady (P m) (m .file) (number j)) ∷ []) s (Known (length (m .file))) acc [] rest (x .damaged ++ (x .intact ∷ [])) t u v)
+    last-passes e na mb =
+        section-passes wide (Known (length (m .file))) (number j) acc (take size rem) (octets-at j rem is) small x bad good [] s rest t u v awaits (simp length-take (omega arith))
+        (λ t₁ u′ d₁. asked-ack m (ack m 3 (number j)) (Known (length (m .file))) (acc ++ take size rem) [] (drop (length (take size rem)) rest) [] t₁ u′ _ (number j) 3 (FileClose (number j)) refl (none-next j e)
+        (λ t₂ d₂. rw (take-all size rem (last-fits j rem e is), kept)
+        (finish (number j) (drop (length rem) rest) [] t₂ _ _ (ap (λ (n : ℕ). record { value = n }) e) behind (omega arith) (omega arith))))
+
+  -- the sections from j + 1 on pass, c of them after that one
+  unfoldable pub Pass : ℕ → ℕ → List Sendings → Type 0
+  Pass c j xs =
+      (acc rem rest : List ℕ) (t : List Passing) (u : ProviderAnswer) (v : ReceiverAnswer) (s : Frame)
+      → j + suc c ≡ count → drop (j * size) (m .file) ≡ rem → acc ++ rem ≡ m .file → length rem ≤ length rest → drop (length rem) rest ≡ beyond → Awaits s (number j)
+      → Radio (limit m) (parts (suc c) size rem) xs
+      → sentBy byProvider t + (suc c + sendingFrames (limit m) (parts (suc c) size rem) xs) + 1 ≡ providerFrames m
+      → sentBy byReceiver t + (2 * suc c + damagedSendings xs) + 1 ≡ receiverFrames m
+      → Ends m (Ex m (tell m (sectionReady (P m) (m .file) (number j)) ∷ []) s (Known (length (m .file))) acc [] rest (inOrder xs) t u v)
+
+  none-said : (c j : ℕ) → Pass c j []
+  unfolding Pass
+  none-said c j acc rem rest t u v s e is kept fits behind awaits hit na mb = absurd hit
+
+  too-many : (j : ℕ) (x y : Sendings) (ys : List Sendings) → Pass 0 j (x ∷ y ∷ ys)
+  unfolding Pass
+  too-many j x y ys acc rem rest t u v s e is kept fits behind awaits hit na mb = absurd (hit .2)
+
+  last-one : (wide : 0 < limit m) (j : ℕ) (x : Sendings) → Pass 0 j (x ∷ [])
+  unfolding Pass
+  last-one wide j x acc rem rest t u v s e is kept fits behind awaits hit na mb =
+      last-passes wide j x acc rem rest t u v s is kept fits behind awaits (hit .0) (hit .1) (omega arith) (omega arith) (omega arith)
+
+  later : (j : ℕ) (rem : List ℕ) → drop (j * size) (m .file) ≡ rem → drop (suc j * size) (m .file) ≡ drop size rem
+  later j rem is = simp (suc-mul, ← is, drop-drop)
+
+  cut-length : (n : ℕ) (a : List ℕ) → length (take n a) + length (drop n a) ≡ length a
+  cut-length n a = sym (length-append (take n a) (drop n a)) ∙ ap length (take-append-drop n a)
+
+  one-more : (wide : 0 < limit m) (c j : ℕ) (x : Sendings) (xs : List Sendings) → Pass c (suc j) xs → Pass (suc c) j (x ∷ xs)
+  unfolding Pass
+  one-more wide c j x xs others acc rem rest t u v s e is kept fits behind awaits hit na mb =
+      one-passes wide j x acc rem rest t u v s is kept fits behind awaits (hit .0) (hit .1) (inOrder xs) (omega arith)
+      (λ t′ u′ v′ d.
+      others (acc ++ take size rem) (drop size rem) (drop (length (take size rem)) rest) t′ u′ v′ (ack m 3 (number j))
+      (omega arith) (later j rem is) (simp (append-assoc, take-append-drop, kept)) (omega (arith, cut-length size rem, length-drop (length (take size rem)) rest))
+      (rw (drop-drop, cut-length size rem) behind) (awaits-next (number j) (number (suc j))) (hit .2) (omega arith) (omega arith))
+
+  pub sections-pass : (wide : 0 < limit m) (c j : ℕ) (xs : List Sendings) → Pass c j xs
+  sections-pass wide c j [] = none-said c j
+  sections-pass wide zero j (x ∷ []) = last-one wide j x
+  sections-pass wide zero j (x ∷ y ∷ ys) = too-many j x y ys
+  sections-pass wide (suc c) j (x ∷ xs) = one-more wide c j x xs (sections-pass wide c (suc j) xs)

@@ -1,0 +1,157 @@
+-- The exchange's steps, one lemma for each kind of frame. Each is told backwards: where the exchange ends well after the step, it does so before it.
+use Prim.Native.Nat.{ℕ, suc, _+_, _≤_}
+use mathlib.Core.Path.{_≡_, refl, sym, ap, _∙_, subst}
+use mathlib.Core.Bool.{true, false}
+use mathlib.Core.List.{List, [], _∷_, _++_, append-nil}
+use native.Mathlib.Omega.{arith}
+use lib.Dec.{leb}
+use lib.ListN.{length, drop, length-append}
+use borrow.Author.Tests.{le-leb, eq-eqb}
+use Rattle.laws.specs.When.{when}
+use Rattle.asdu.specs.Sizes.{segmentLimit}
+use Rattle.asdu.specs.declared.file.Nos.{Nos}
+use Rattle.frame.specs.declared.Frame.{Frame}
+use Rattle.frame.specs.declared.Frame.the-variants as F
+use Rattle.frame.specs.Frames.{receiverSide, ioaOf}
+use Rattle.frame.specs.Ranges.{segmentInRange, valuesInRange}
+use Rattle.frame.specs.Answers.{answersTo}
+use Rattle.provide.specs.Replies.{bare, segmentPacket, replies}
+use Rattle.provide.specs.Requests.{replying, onSc, onAck}
+use Rattle.provide.specs.declared.Reply.{Reply}
+use Rattle.provide.specs.declared.ProviderAnswer.{ProviderAnswer}
+use Rattle.provide.specs.declared.ProviderAnswer.the-variants as PA
+use Rattle.receive.specs.Answers.{onAnswered}
+use Rattle.receive.specs.declared.Length.{Length}
+use Rattle.receive.specs.declared.Sent.the-variants as S
+use Rattle.receive.specs.declared.ReceiverAnswer.{ReceiverAnswer}
+use Rattle.receive.specs.declared.ReceiverAnswer.the-variants as RA
+use Rattle.receive.proofs.Facts.{segment-taken}
+use Rattle.exchange.specs.Exchange.{Side, byProvider, byReceiver, Fate, lost, arrives, Passing, untouched, isSection, nextSending, sendingsLeft, flown, Exchange, provided, taken, step, run, oneBy, sentBy}
+use Rattle.exchange.specs.Transfer.{Transfer, Transferred, providerFrames, receiverFrames}
+use Rattle.exchange.proofs.Hearing.{P, R, hears-sc, hears-ack, receiver-hears}
+
+-- t′ has p more frames of the Provider's than t, and r more of the Receiver's
+abbrev pub Adds : List Passing → List Passing → ℕ → ℕ → Type 0
+Adds t t′ p r = (sentBy byProvider t′ ≡ sentBy byProvider t + p) × (sentBy byReceiver t′ ≡ sentBy byReceiver t + r)
+
+sent-more : (s : Side) (t : List Passing) (x : Passing) → sentBy s (t ++ (x ∷ [])) ≡ sentBy s t + oneBy s (x .sender)
+sent-more s [] x = omega arith
+sent-more s (y ∷ t) x = omega (arith, sent-more s t x)
+
+pub adds : (t : List Passing) (x : Passing) → Adds t (t ++ (x ∷ [])) (oneBy byProvider (x .sender)) (oneBy byReceiver (x .sender))
+adds t x = (sent-more byProvider t x, sent-more byReceiver t x)
+
+pub one-side : (s : Side) → oneBy byProvider s + oneBy byReceiver s ≡ 1
+one-side byProvider = refl
+one-side byReceiver = refl
+
+module _ (m : Transfer) where
+  -- the exchange ends well once all frames have passed
+  abbrev pub Ends : Exchange → Type 0
+  Ends e =
+      (k : ℕ) × (k + (sentBy byProvider (e .passed) + sentBy byReceiver (e .passed)) ≡ providerFrames m + receiverFrames m)
+      × Transferred m (run (m .file) (m .headers) k e)
+
+  -- an exchange under way: the store is what is accepted, what is under way, and the rest; t was passed
+  abbrev pub Ex : List Passing → Frame → Length → List ℕ → List ℕ → List ℕ → List (List Fate) → List Passing → ProviderAnswer → ReceiverAnswer → Exchange
+  Ex q s l acc sec rest radio t u v =
+      record {
+        queue = q;
+        provider = P m;
+        receiver = R m (S.Frame s) l (length acc) (length sec);
+        store = acc ++ (sec ++ rest);
+        radio = radio;
+        passed = t;
+        providerSaid = u;
+        receiverSaid = v;
+      }
+
+  abbrev pub sc : ℕ → Nos → Frame
+  sc action nos = F.Sc (m .object) (m .name) nos (record { action = action; error = 0 })
+
+  abbrev pub ack : ℕ → Nos → Frame
+  ack action nos = F.Ack (m .object) (m .name) nos (record { action = action; error = 0 })
+
+  abbrev pub ask : Frame → Passing
+  ask f = untouched byReceiver (bare f)
+
+  abbrev pub tell : Frame → Passing
+  tell f = untouched byProvider (bare f)
+
+  -- a segment on its way, and what becomes of it
+  abbrev pub hit : Nos → List ℕ → Fate → Passing
+  hit nos o f = record { sender = byProvider; packet = segmentPacket (P m) nos o; fate = f }
+
+  -- what the Provider's reply puts into the queue, and the sendings to come after it
+  abbrev pub queued : Reply → List (List Fate) → List Passing
+  queued r radio = flown (nextSending (isSection r) radio) (replies (P m) (m .file) r)
+
+  abbrev pub left : Reply → List (List Fate) → List (List Fate)
+  left r radio = sendingsLeft (isSection r) radio
+
+  pub back : (x : Passing) (e e′ : Exchange) → step (m .file) (m .headers) e ≡ e′ → e′ .passed ≡ e .passed ++ (x ∷ []) → Ends e′ → Ends e
+  back x e e′ does kept (k, frames, ends) = (
+    suc k,
+    omega (arith, rw kept at frames, adds (e .passed) x, one-side (x .sender)),
+    subst (λ (z : Exchange). Transferred m (run (m .file) (m .headers) k z)) (sym does) ends,
+  )
+
+  module _ (s : Frame) (l : Length) (acc sec rest : List ℕ) where
+    room : length acc + length sec ≤ length (acc ++ (sec ++ rest))
+    room = simp length-append (omega arith)
+
+    module _ (radio : List (List Fate)) (t : List Passing) (u : ProviderAnswer) (v : ReceiverAnswer) where
+      -- the Provider answers a request that keeps it running
+      pub asked-sc : (nos : Nos) (action : ℕ) (r : Reply) → leb action 15 ≡ true
+          → onSc (P m) nos (record { action = action; error = 0 }) ≡ replying (P m) r
+          → ((t′ : List Passing) → Adds t t′ 0 1 → Ends (Ex (queued r radio) s l acc sec rest (left r radio) t′ (PA.Running r) v))
+          → Ends (Ex (ask (sc action nos) ∷ []) s l acc sec rest radio t u v)
+      asked-sc nos action r small does k =
+          back (ask (sc action nos)) _ _
+          (ap (provided (m .file) (Ex (ask (sc action nos) ∷ []) s l acc sec rest radio t u v) (ask (sc action nos)) [])
+          (hears-sc m _ nos action small (m .sound t (ask (sc action nos))) ∙ does)) refl
+          (k _ (adds t (ask (sc action nos))))
+
+      -- or an acknowledgement
+      pub asked-ack : (nos : Nos) (action : ℕ) (r : Reply) → leb action 15 ≡ true
+          → onAck (P m) nos (record { action = action; error = 0 }) ≡ replying (P m) r
+          → ((t′ : List Passing) → Adds t t′ 0 1 → Ends (Ex (queued r radio) s l acc sec rest (left r radio) t′ (PA.Running r) v))
+          → Ends (Ex (ask (ack action nos) ∷ []) s l acc sec rest radio t u v)
+      asked-ack nos action r small does k =
+          back (ask (ack action nos)) _ _
+          (ap (provided (m .file) (Ex (ask (ack action nos) ∷ []) s l acc sec rest radio t u v) (ask (ack action nos)) [])
+          (hears-ack m _ nos action small (m .sound t (ask (ack action nos))) ∙ does)) refl
+          (k _ (adds t (ask (ack action nos))))
+
+      -- the Receiver takes a frame that is no segment
+      pub takes : (f : Frame) (q : List Passing) (e : List Passing → Exchange) → receiverSide f ≡ false → ioaOf f ≡ m .object
+          → valuesInRange (m .provider-station .sizes) f [] ≡ true → answersTo s f ≡ true
+          → taken (Ex (tell f ∷ q) s l acc sec rest radio t u v) (tell f) q
+          (onAnswered (R m (S.Frame s) l (length acc) (length sec)) (acc ++ (sec ++ rest)) [] f) ≡ e (t ++ (tell f ∷ []))
+          → ((t′ : List Passing) → Adds t t′ 1 0 → Ends (e t′))
+          → Ends (Ex (tell f ∷ q) s l acc sec rest radio t u v)
+      takes f q e side object fits right does k =
+          back (tell f) _ (e (t ++ (tell f ∷ [])))
+          (ap (taken (Ex (tell f ∷ q) s l acc sec rest radio t u v) (tell f) q)
+          (receiver-hears m s l _ _ _ [] f _ room (m .sound t (tell f)) side object fits right) ∙ does) (sym (ap (λ (z : Exchange). z .passed) does))
+          (k _ (adds t (tell f)))
+
+      -- a segment that is lost
+      pub loses : (nos : Nos) (o : List ℕ) (q : List Passing)
+          → ((t′ : List Passing) → Adds t t′ 1 0 → Ends (Ex q s l acc sec rest radio t′ u v))
+          → Ends (Ex (hit nos o lost ∷ q) s l acc sec rest radio t u v)
+      loses nos o q k = back (hit nos o lost) _ _ refl refl (k _ (adds t (hit nos o lost)))
+
+      -- one that arrives, as x
+      pub gains : (nos : Nos) (o x : List ℕ) (q : List Passing) → 1 ≤ length o → length o ≤ segmentLimit (m .provider-station .sizes)
+          → length x ≡ length o → length o ≤ length rest → answersTo s (segmentPacket (P m) nos o .frame) ≡ true
+          → ((t′ : List Passing) → Adds t t′ 1 0 → Ends (Ex q s l acc (sec ++ x) (drop (length x) rest) radio t′ u RA.Running))
+          → Ends (Ex (hit nos o (arrives x) ∷ q) s l acc sec rest radio t u v)
+      unfolding segmentInRange when
+      gains nos o x q some short alike fits right k =
+          back (hit nos o (arrives x)) _ (Ex q s l acc (sec ++ x) (drop (length x) rest) radio (t ++ (hit nos o (arrives x) ∷ [])) u RA.Running)
+          (ap (taken (Ex (hit nos o (arrives x) ∷ q) s l acc sec rest radio t u v) (hit nos o (arrives x)) q)
+          (receiver-hears m s l _ _ _ x _ _ room (m .sound t (hit nos o (arrives x))) refl refl
+          (simp (alike, eq-eqb (length o) (length o) refl, le-leb 1 (length o) some, le-leb (length o) (segmentLimit (m .provider-station .sizes)) short)) right)
+          ∙ simp (segment-taken (R m (S.Frame s) l (length acc) (length sec)) acc sec rest refl refl x (omega arith), length-append sec x, append-nil)) refl
+          (k _ (adds t (hit nos o (arrives x))))

@@ -1,0 +1,103 @@
+-- Demand 3, entire: the two-party result.
+use Prim.Native.Nat.{ℕ, zero, suc, _+_, _*_, _≤_, _<_}
+use mathlib.Core.Path.{_≡_, refl, subst}
+use mathlib.Core.Bool.{true, false}
+use mathlib.Core.List.{[], _∷_}
+use native.Mathlib.Omega.{arith}
+use native.Mathlib.Nat.{zero-mul}
+use lib.Dec.{leb}
+use lib.ListN.{length}
+use borrow.Author.Tests.{le-leb, leb-true, eq-eqb}
+use Rattle.laws.specs.When.{when, _and_}
+use Rattle.lists.specs.Parts.{parts}
+use Rattle.asdu.specs.Sizes.{within, sizesRight, headerLen, elementRoom, segmentLimit}
+use Rattle.asdu.proofs.Range.{both}
+use Rattle.asdu.specs.declared.file.Nos.{Nos}
+use Rattle.asdu.specs.declared.file.Lof.{Lof}
+use Rattle.asdu.specs.declared.sizes.AddressSizes.{AddressSizes}
+use Rattle.frame.specs.declared.Frame.the-variants as F
+use Rattle.frame.specs.Answers.{answersTo, namesAgree, calledSection, scAnswered, fileAnswered}
+use Rattle.ft.specs.Procedure.{settled, addressRight}
+use Rattle.provide.specs.Sections.{sections}
+use Rattle.provide.specs.Replies.{fileReady}
+use Rattle.provide.specs.declared.Reply.the-variants.{Nothing, FileReady, SectionReady}
+use Rattle.provide.specs.declared.ProviderAnswer.the-variants as PA
+use Rattle.provide.proofs.Facts.{selects-file, requests-file}
+use Rattle.provide.proofs.Sections.{some-section}
+use Rattle.receive.specs.Answers.{onFileReady}
+use Rattle.receive.specs.declared.Sent.the-variants as S
+use Rattle.receive.specs.declared.Length.the-variants.{Unknown, Known}
+use Rattle.receive.specs.declared.ReceiverAnswer.the-variants as RA
+use Rattle.exchange.specs.Exchange.{Exchange, begun}
+use Rattle.exchange.specs.Transfer.{Transfer, Transferred, TwoPartyTransfer, Radio, inOrder, sendingFrames, damagedSendings, providerFrames, receiverFrames, exchanged}
+use Rattle.exchange.proofs.Hearing.{P, R, short, settings, provider-fresh, receiver-fresh, starts}
+use Rattle.exchange.proofs.Steps.{Ends, Ex, sc, ask, asked-sc, takes}
+use Rattle.exchange.proofs.Sendings.{limit}
+use Rattle.exchange.proofs.Sections.{Awaits, size, count, number, Pass, sections-pass}
+
+within-most : (low high x : ℕ) → within low high x ≡ true → x ≤ high
+unfolding within
+within-most low high x e = leb-true x high (both (leb low x) (leb x high) e .1)
+
+-- a segment holds something at every width
+limit-wide : (z : AddressSizes) → sizesRight z ≡ true → 0 < segmentLimit z
+unfolding sizesRight segmentLimit elementRoom headerLen
+limit-wide z e =
+    let (c, rest) = both (within 1 2 (z .«cause_octets»)) (within 1 2 (z .«common_address_octets») and within 1 3 (z .«information_object_address_octets»)) e in
+    let (a, o) = both (within 1 2 (z .«common_address_octets»)) (within 1 3 (z .«information_object_address_octets»)) rest in
+    omega (arith, within-most 1 2 (z .«cause_octets») c, within-most 1 2 (z .«common_address_octets») a, within-most 1 3 (z .«information_object_address_octets») o)
+
+module _ (m : Transfer) where
+  pub wide : 0 < limit m
+  unfolding settled
+  wide =
+      limit-wide (m .provider-station .sizes)
+      (both (sizesRight (m .provider-station .sizes)) (addressRight (m .provider-station .sizes) (m .provider-station .ca) (m .provider-station .org)) (settings m) .0)
+
+  abbrev none : Nos
+  none = record { value = 0 }
+
+  offers : (x : Lof) → answersTo (sc m 1 none) (F.FileReady (m .object) (m .name) x (record { value = 0; «negative_confirm» = false })) ≡ true
+  unfolding answersTo namesAgree calledSection scAnswered when
+  offers x = simp (eq-eqb (m .object) (m .object) refl, eq-eqb (m .name .value) (m .name .value) refl)
+
+  awaits-first : Awaits m (sc m 2 none) (number m 0)
+  unfolding answersTo namesAgree calledSection scAnswered fileAnswered when
+  awaits-first x = simp (eq-eqb (m .object) (m .object) refl, eq-eqb (m .name .value) (m .name .value) refl)
+
+  -- from the select to the first section
+  opens : (c : ℕ) → count m ≡ suc c
+      → Radio (limit m) (parts (suc c) (size m) (m .file)) (m .radio)
+      → 2 + suc c + sendingFrames (limit m) (parts (suc c) (size m) (m .file)) (m .radio) ≡ providerFrames m
+      → 3 + 2 * suc c + damagedSendings (m .radio) ≡ receiverFrames m
+      → Ends m (Ex m (ask m (sc m 1 none) ∷ []) (sc m 1 none) Unknown [] [] (m .store) (inOrder (m .radio)) [] (PA.Running Nothing) (RA.Send (sc m 1 none)))
+  unfolding onFileReady Pass when
+  opens c e hit na mb =
+      asked-sc m (sc m 1 none) Unknown [] [] (m .store) (inOrder (m .radio)) [] _ _ none 1 FileReady refl (selects-file (P m) none 0)
+      (λ t₁ d₁. takes m (sc m 1 none) Unknown [] [] (m .store) (inOrder (m .radio)) t₁ _ _ (fileReady (P m)) []
+      (λ t′. Ex m (ask m (sc m 2 none) ∷ []) (sc m 2 none) (Known (length (m .file))) [] [] (m .store) (inOrder (m .radio)) t′ (PA.Running FileReady) (RA.Send (sc m 2 none)))
+      refl refl (simp (le-leb (length (m .file)) 0xFFFFFF (short m))) (offers _) refl
+      (λ t₂ d₂. asked-sc m (sc m 2 none) (Known (length (m .file))) [] [] (m .store) (inOrder (m .radio)) t₂ _ _ none 2 (SectionReady (number m 0)) refl (requests-file (P m) none 0)
+      (λ t₃ d₃. sections-pass m wide c 0 (m .radio) [] (m .file) (m .store) t₃ _ _ (sc m 2 none)
+      (omega arith) (rw zero-mul) refl (m .room) refl awaits-first hit (omega arith) (omega arith))))
+
+  begins : (c : ℕ) → count m ≡ c
+      → Radio (limit m) (parts c (size m) (m .file)) (m .radio)
+      → 2 + c + sendingFrames (limit m) (parts c (size m) (m .file)) (m .radio) ≡ providerFrames m
+      → 3 + 2 * c + damagedSendings (m .radio) ≡ receiverFrames m
+      → Ends m (begun (P m) (R m S.Nothing Unknown 0 0) (m .store) (inOrder (m .radio)))
+  begins zero e hit na mb = absurd (omega (arith, some-section (length (m .file))))
+  begins (suc c) e hit na mb = rw (starts m) (opens c e hit na mb)
+
+  made : begun (P m) (R m S.Nothing Unknown 0 0) (m .store) (inOrder (m .radio)) ≡ begun (m .provider) (m .receiver) (m .store) (inOrder (m .radio))
+  made = rw (provider-fresh m, receiver-fresh m)
+
+  all-pass : Ends m (begun (m .provider) (m .receiver) (m .store) (inOrder (m .radio)))
+  unfolding sections
+  all-pass = subst (λ (e : Exchange). Ends m e) made (begins (count m) refl (m .damage) refl refl)
+
+pub two-party-transfer : TwoPartyTransfer
+two-party-transfer m =
+    let t = all-pass m in
+    let steps : t .0 ≡ providerFrames m + receiverFrames m = omega (arith, t .1) in
+    subst (λ (k : ℕ). Transferred m (exchanged m k)) steps (t .2)

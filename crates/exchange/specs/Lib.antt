@@ -1,0 +1,4 @@
+pub mod Exchange
+pub mod Transfer
+pub mod Damaging
+pub mod Script

@@ -1,0 +1,1 @@
+// The exchange of document 01 between one Provider and one Receiver, and what is proved of it.

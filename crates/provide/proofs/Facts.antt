@@ -1,0 +1,91 @@
+-- What the Provider answers, by the action of a request or acknowledgement: the facts that the exchange cites.
+use Prim.Native.Nat.{ℕ, _+_, _*_, _-_, _≤_, _<_}
+use mathlib.Core.Path.{_≡_, refl}
+use mathlib.Core.Bool.{true, false}
+use mathlib.Core.List.{List, []}
+use native.Mathlib.Omega.{arith}
+use native.Mathlib.Nat.{le-trans, mul-le-mul-right}
+use lib.ListN.{length, drop-of-length-le}
+use lib.Seq.{take-all}
+use borrow.Author.Tests.{lt-ltb, le-ltb, ne-eqb}
+use Rattle.laws.specs.When.{when}
+use Rattle.asdu.specs.declared.file.Nos.{Nos}
+use Rattle.asdu.specs.declared.header.Header.{Header}
+use Rattle.asdu.specs.declared.header.UnknownField.{UnknownField}
+use Rattle.frame.specs.declared.Frame.{Frame}
+use Rattle.ft.specs.Admission.{onAsdu}
+use Rattle.ft.specs.declared.admit.Received.{Received}
+use Rattle.ft.specs.declared.admit.Reaction.the-variants as A
+use Rattle.provide.specs.Sections.{sectionLength, sectionCount, sectionOctets}
+use Rattle.provide.specs.Record.{fileAgrees, ended, counted}
+use Rattle.provide.specs.Requests.{stepped, replying, onSc, after, onAck, isOurs, onOurs, onRequest, provide}
+use Rattle.provide.specs.declared.Provider.{Provider}
+use Rattle.provide.specs.declared.Reply.the-variants.{Nothing, FileReady, SectionReady, Section, FileClose}
+use Rattle.provide.specs.declared.ProviderAnswer.the-variants.{Complete}
+use Rattle.provide.proofs.Sections.{enough}
+
+module _ (p : Provider) where
+  -- a request that is admitted is heard
+  pub request-heard : (file : List ℕ) (h : Header) (unknown : UnknownField) (received : Received) (beside : List ℕ) (f : Frame)
+      → fileAgrees p file ≡ true → p .done ≡ false → onAsdu (p .procedure) h unknown received beside ≡ A.Requested f
+      → provide p file h unknown received beside ≡ onRequest p f
+  unfolding provide when
+  request-heard file h unknown received beside f agrees goes admitted = simp (agrees, goes, admitted)
+
+  pub ours-heard : (f : Frame) → isOurs p f ≡ true → onRequest p f ≡ onOurs p f
+  unfolding onRequest when
+  ours-heard f e = simp e
+
+  -- one for another object address or file is counted and sends nothing
+  pub others-counted : (f : Frame) → isOurs p f ≡ false → onRequest p f ≡ replying (counted p) Nothing
+  unfolding onRequest when
+  others-counted f e = simp e
+
+  module _ (nos : Nos) (error : ℕ) where
+    -- select file, request file, select section, request section
+    pub selects-file : onSc p nos (record { action = 1; error = error }) ≡ replying p FileReady
+    unfolding onSc when
+    selects-file = refl
+
+    pub requests-file : onSc p nos (record { action = 2; error = error }) ≡ replying p (SectionReady (record { value = 1 }))
+    unfolding onSc when
+    requests-file = refl
+
+    pub selects-section : onSc p nos (record { action = 5; error = error }) ≡ replying p (SectionReady nos)
+    unfolding onSc when
+    selects-section = refl
+
+    pub requests-section : onSc p nos (record { action = 6; error = error }) ≡ replying p (Section nos)
+    unfolding onSc when
+    requests-section = refl
+
+    -- a section accepted: the next one, or the file's close
+    pub next-section : nos .value < sectionCount (p .length) → onAck p nos (record { action = 3; error = error }) ≡ replying p (SectionReady (record { value = nos .value + 1 }))
+    unfolding onAck after when
+    next-section h = simp (lt-ltb (nos .value) (sectionCount (p .length)) h)
+
+    pub no-section : sectionCount (p .length) ≤ nos .value → onAck p nos (record { action = 3; error = error }) ≡ replying p (FileClose nos)
+    unfolding onAck after when
+    no-section h = simp (le-ltb (nos .value) (sectionCount (p .length)) h)
+
+    -- a section refused: it is sent again
+    pub section-again : onAck p nos (record { action = 4; error = error }) ≡ replying p (Section nos)
+    unfolding onAck when
+    section-again = refl
+
+    -- the file accepted
+    pub file-accepted : onAck p nos (record { action = 1; error = error }) ≡ stepped (ended p) Complete
+    unfolding onAck when
+    file-accepted = refl
+
+-- section 0 is empty, and so is every one past the end
+pub section-zero : (size : ℕ) (file : List ℕ) → sectionOctets size file 0 ≡ []
+unfolding sectionOctets when
+section-zero size file = refl
+
+pub section-past : (file : List ℕ) (nos : ℕ) → sectionCount (length file) < nos → sectionOctets (sectionLength (length file)) file nos ≡ []
+unfolding sectionOctets when
+section-past file nos h =
+    let far : length file ≤ (nos - 1) * sectionLength (length file) =
+    le-trans (enough (length file)) (mul-le-mul-right (sectionLength (length file)) (omega arith)) in
+    simp (ne-eqb nos 0 (λ e. omega arith), drop-of-length-le file far, take-all {A = ℕ} (sectionLength (length file)) [] (omega arith))

@@ -1,0 +1,7 @@
+pub mod Sections
+pub mod Facts
+pub mod Making
+pub mod Announcing
+pub mod Refusals
+pub mod Indexed
+pub mod Table

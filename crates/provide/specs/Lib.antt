@@ -1,0 +1,5 @@
+pub mod Sections
+pub mod Record
+pub mod Replies
+pub mod Requests
+pub mod Table

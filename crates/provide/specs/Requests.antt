@@ -1,0 +1,100 @@
+-- What a Provider makes of a received frame (document 01, The Provider's record; IEC 60870-5-101, 7.4.11).
+use Prim.Native.Nat.{ℕ, _+_}
+use mathlib.Core.Bool.{Bool, true, false}
+use mathlib.Core.List.{List}
+use lib.Dec.{eqb, ltb}
+use Rattle.laws.specs.When.{when, unless, _and_}
+use Rattle.asdu.specs.declared.file.Nos.{Nos}
+use Rattle.asdu.specs.declared.file.Scq.{Scq}
+use Rattle.asdu.specs.declared.file.Afq.{Afq}
+use Rattle.asdu.specs.declared.header.Header.{Header}
+use Rattle.asdu.specs.declared.header.UnknownField.{UnknownField}
+use Rattle.asdu.specs.declared.error.FtError.the-variants as E
+use Rattle.frame.specs.declared.Frame.{Frame}
+use Rattle.frame.specs.declared.Frame.the-variants as F
+use Rattle.frame.specs.declared.answer.SomeNof.the-variants as N
+use Rattle.frame.specs.Frames.{ioaOf}
+use Rattle.frame.specs.Answers.{nofOf, nofAgree}
+use Rattle.ft.specs.Admission.{onAsdu}
+use Rattle.ft.specs.declared.admit.Received.{Received}
+use Rattle.ft.specs.declared.admit.Reaction.{Reaction}
+use Rattle.ft.specs.declared.admit.Reaction.the-variants as A
+use Rattle.provide.specs.Sections.{sectionCount}
+use Rattle.provide.specs.Record.{fileAgrees, ended, counted}
+use Rattle.provide.specs.declared.Provider.{Provider}
+use Rattle.provide.specs.declared.ProviderStep.{ProviderStep}
+use Rattle.provide.specs.declared.Reply.{Reply}
+use Rattle.provide.specs.declared.Reply.the-variants.{Nothing, FileReady, SectionReady, Section, FileClose}
+use Rattle.provide.specs.declared.ProviderAnswer.{ProviderAnswer}
+use Rattle.provide.specs.declared.ProviderAnswer.the-variants.{Running, Complete, Deactivated, FileRejected, Refused, Err}
+
+abbrev pub stepped : Provider → ProviderAnswer → ProviderStep
+stepped p a = record { provider = p; answer = a }
+
+abbrev pub replying : Provider → Reply → ProviderStep
+replying p r = stepped p (Running r)
+
+-- a request, by the action of SCQ: 1 select file, 2 request file, 5 select section, 6 request section; any other ends the transfer
+unfoldable pub onSc : Provider → Nos → Scq → ProviderStep
+onSc p nos q =
+    when (eqb (q .action) 1) (replying p FileReady)
+    (when (eqb (q .action) 2) (replying p (SectionReady (record { value = 1 })))
+    (when (eqb (q .action) 5) (replying p (SectionReady nos))
+    (when (eqb (q .action) 6) (replying p (Section nos))
+    (stepped (ended p) (Deactivated q)))))
+
+-- after a positive acknowledgement of section `nos`: the next one (of 0: the first), or, of the last or beyond, the file's close under that name
+unfoldable pub after : Provider → Nos → Reply
+after p nos = when (ltb (nos .value) (sectionCount (p .length))) (SectionReady (record { value = nos .value + 1 })) (FileClose nos)
+
+-- an acknowledgement, by the action of AFQ: 3 section positive, 4 section negative, 1 file positive; any other ends the transfer
+unfoldable pub onAck : Provider → Nos → Afq → ProviderStep
+onAck p nos q =
+    when (eqb (q .action) 3) (replying p (after p nos))
+    (when (eqb (q .action) 4) (replying p (Section nos))
+    (when (eqb (q .action) 1) (stepped (ended p) Complete)
+    (stepped (ended p) (FileRejected q))))
+
+-- whether a request is for this object address and file
+unfoldable pub isOurs : Provider → Frame → Bool
+isOurs p f = eqb (ioaOf f) (p .ioa) and nofAgree (nofOf f) (N.Some (p .nof))
+
+-- the query of a log sends nothing, and no other frame is a request
+abbrev pub onOurs : Provider → Frame → ProviderStep
+onOurs p (F.FileReady ioa nof lof frq) = replying p Nothing
+onOurs p (F.SectionReady ioa nof nos lof srq) = replying p Nothing
+onOurs p (F.Sc ioa nof nos scq) = onSc p nos scq
+onOurs p (F.LastSection ioa nof nos lsq chs) = replying p Nothing
+onOurs p (F.Ack ioa nof nos afq) = onAck p nos afq
+onOurs p (F.Segment ioa nof nos los) = replying p Nothing
+onOurs p (F.Directory ioa cause) = replying p Nothing
+onOurs p (F.QueryLog ioa nof start stop) = replying p Nothing
+
+-- one for another is counted and changes nothing else
+unfoldable pub onRequest : Provider → Frame → ProviderStep
+onRequest p f = unless (isOurs p f) (replying (counted p) Nothing) (onOurs p f)
+
+-- by what admission makes of the frame
+abbrev pub provideAdmitted : Provider → Reaction → ProviderStep
+provideAdmitted p (A.Requested f) = onRequest p f
+provideAdmitted p (A.Answered f) = replying p Nothing
+provideAdmitted p (A.Refused cause mirror) = stepped (ended p) (Refused cause mirror)
+provideAdmitted p (A.Discard why) = replying p Nothing
+provideAdmitted p A.Other = replying p Nothing
+provideAdmitted p (A.Err e) = stepped p (Err e)
+
+-- one frame handed to the Provider: 26 first, then a done record is answered with nothing
+unfoldable pub provide : Provider → List ℕ → Header → UnknownField → Received → List ℕ → ProviderStep
+provide p file h unknown received beside =
+    unless (fileAgrees p file) (stepped p (Err E.RecordMismatch))
+    (when (p .done) (replying p Nothing)
+    (provideAdmitted p (onAsdu (p .procedure) h unknown received beside)))
+
+-- whether an answer is a numbered refusal
+abbrev pub isRefusal : ProviderAnswer → Bool
+isRefusal (Running r) = false
+isRefusal Complete = false
+isRefusal (Deactivated q) = false
+isRefusal (FileRejected q) = false
+isRefusal (Refused cause mirror) = false
+isRefusal (Err e) = true

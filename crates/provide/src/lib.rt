@@ -1,0 +1,64 @@
+// The providing side of a file transfer (IEC 60870-5-101, 7.4.11): one file, cut into sections, and
+// what a Provider answers to the requests for it. The file's octets are lent to each call.
+use asdu::error::FtError;
+use asdu::file::Afq;
+use asdu::file::Nof;
+use asdu::file::Nos;
+use asdu::file::Scq;
+use asdu::header::Cause;
+use frame::Frame;
+use ft::procedure::FileTransferProcedure;
+
+// The record of one file's transfer.
+pub struct Provider {
+    pub procedure: FileTransferProcedure,
+    pub ioa: u32,
+    pub nof: Nof,
+    // The lent file's.
+    pub length: u32,
+    pub section_len: u32,
+    // How many requests named another object address or file. It stays at its largest value.
+    pub unmatched: u32,
+    pub done: bool,
+}
+
+pub enum ProviderResult {
+    Ok(Provider),
+    Err(FtError),
+}
+
+// What a Provider sends: its frames are counted, and each is made when it is asked for by its index.
+pub enum Reply {
+    Nothing,
+    FileReady,
+    SectionReady(Nos),
+    // A section's segments and its close.
+    Section(Nos),
+    FileClose(Nos),
+}
+
+// Where a Provider stands after a frame.
+pub enum ProviderAnswer {
+    Running(Reply),
+    Complete,
+    Deactivated { scq: Scq },
+    FileRejected { afq: Afq },
+    Refused { cause: Cause, mirror: bool },
+    Err(FtError),
+}
+
+pub struct ProviderStep {
+    pub provider: Provider,
+    pub answer: ProviderAnswer,
+}
+
+// How many frames a reply has.
+pub enum CountResult {
+    Ok(usize),
+    Err(FtError),
+}
+
+pub enum FrameResult {
+    Ok(Frame),
+    Err(FtError),
+}

@@ -1,0 +1,76 @@
+-- What the Receiver does, told of a store as what is accepted, what is under way and the rest: the facts that the exchange cites.
+use Prim.Native.Nat.{ℕ, _+_, _≤_, _<_}
+use mathlib.Core.Path.{_≡_}
+use mathlib.Core.Logic.{_≢_}
+use mathlib.Core.Bool.{true, false}
+use mathlib.Core.List.{List, _++_}
+use native.Mathlib.Omega.{arith}
+use lib.ListN.{length, drop, length-append}
+use borrow.Author.Tests.{eq-eqb, ne-eqb, le-leb, lt-leb}
+use Rattle.laws.specs.When.{when}
+use Rattle.asdu.specs.declared.file.Nos.{Nos}
+use Rattle.asdu.specs.declared.file.Chs.{Chs}
+use Rattle.asdu.specs.declared.header.Header.{Header}
+use Rattle.asdu.specs.declared.header.UnknownField.{UnknownField}
+use Rattle.asdu.specs.declared.error.FtError.the-variants as E
+use Rattle.frame.specs.declared.Frame.{Frame}
+use Rattle.ft.specs.Checksum.{checksum}
+use Rattle.ft.specs.Admission.{onAnswer}
+use Rattle.ft.specs.declared.admit.Received.{Received}
+use Rattle.ft.specs.declared.admit.Reaction.the-variants as A
+use Rattle.receive.specs.Record.{storeAgrees, holding, acknowledge, awaited, stepped}
+use Rattle.receive.specs.Answers.{asks, closing, leaving, onSectionClose, onFileClose, onSegment, onAnswered, receive}
+use Rattle.receive.specs.declared.Receiver.{Receiver}
+use Rattle.receive.specs.declared.ReceiverAnswer.the-variants.{Running, Complete, FileChecksum, Err}
+use Rattle.receive.proofs.Store.{written-after, staged-part, kept-part}
+
+-- an answer to what was asked is acted upon
+pub answer-heard : (r : Receiver) (store : List ℕ) (h : Header) (unknown : UnknownField) (received : Received) (beside : List ℕ) (f : Frame)
+    → storeAgrees r store ≡ true → r .done ≡ false → onAnswer (r .procedure) h unknown received beside (awaited r) ≡ A.Answered f
+    → receive r store h unknown received beside ≡ onAnswered r store beside f
+unfolding receive when
+answer-heard r store h unknown received beside f agrees goes admitted = simp (agrees, goes, admitted)
+
+module _ (r : Receiver) (acc sec rest : List ℕ) (kept : r .kept ≡ length acc) (staged : r .staged ≡ length sec) where
+  abbrev store : List ℕ
+  store = acc ++ (sec ++ rest)
+
+  -- a section's close: the sum of what is under way accepts it
+  pub section-accepted : (nos : Nos) (chs : Chs) → checksum sec ≡ chs .value
+      → onSectionClose r store nos chs ≡ asks (holding r (length acc + length sec) 0) (acknowledge r 3 nos)
+  unfolding onSectionClose when
+  section-accepted nos chs e = simp (kept, staged, staged-part acc sec rest, eq-eqb (checksum sec) (chs .value) e)
+
+  -- any other drops it
+  pub section-dropped : (nos : Nos) (chs : Chs) → checksum sec ≢ chs .value
+      → onSectionClose r store nos chs ≡ asks (holding r (length acc) 0) (acknowledge r 4 nos)
+  unfolding onSectionClose when
+  section-dropped nos chs e = simp (kept, staged, staged-part acc sec rest, ne-eqb (checksum sec) (chs .value) e)
+
+  -- the file's close: the sum of what is accepted, whatever is under way
+  pub file-accepted : (nos : Nos) (chs : Chs) → checksum acc ≡ chs .value
+      → onFileClose r store nos chs ≡ stepped (closing r (acknowledge r 1 nos)) (Complete (acknowledge r 1 nos) (length acc))
+  unfolding onFileClose when
+  file-accepted nos chs e = simp (kept, kept-part acc sec rest, eq-eqb (checksum acc) (chs .value) e)
+
+  pub file-rejected : (nos : Nos) (chs : Chs) → checksum acc ≢ chs .value
+      → onFileClose r store nos chs
+      ≡ stepped (closing r (acknowledge r 2 nos)) (FileChecksum (acknowledge r 2 nos) (record { value = checksum acc }) chs)
+  unfolding onFileClose when
+  file-rejected nos chs e = simp (kept, kept-part acc sec rest, ne-eqb (checksum acc) (chs .value) e)
+
+  -- a segment is written behind what is under way, where the rest can take it
+  pub segment-taken : (o : List ℕ) → length o ≤ length rest
+      → onSegment r store o
+      ≡ leaving (acc ++ ((sec ++ o) ++ drop (length o) rest)) (stepped (holding r (length acc) (length sec + length o)) Running)
+  unfolding onSegment when
+  segment-taken o fits =
+      let room : length acc + length sec + length o ≤ length store = simp length-append (omega arith) in
+      simp (kept, staged, le-leb _ _ room, written-after acc sec rest o)
+
+  -- and is refused exactly where it cannot
+  pub segment-refused : (o : List ℕ) → length rest < length o → onSegment r store o ≡ leaving store (stepped r (Err E.StoreFull))
+  unfolding onSegment when
+  segment-refused o full =
+      let none : length store < length acc + length sec + length o = simp length-append (omega arith) in
+      simp (kept, staged, lt-leb _ _ none)

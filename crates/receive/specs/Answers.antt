@@ -1,0 +1,121 @@
+-- What a Receiver makes of a received frame, with the store after it (document 01, The Receiver's record; IEC 60870-5-101, 7.4.11).
+use Prim.Native.Nat.{ℕ, _+_}
+use mathlib.Core.Bool.{Bool, true, false}
+use mathlib.Core.List.{List}
+use lib.Dec.{eqb, leb}
+use lib.ListN.{length}
+use Rattle.laws.specs.When.{when, unless, _or_}
+use Rattle.asdu.specs.declared.file.Nos.{Nos}
+use Rattle.asdu.specs.declared.file.Lof.{Lof}
+use Rattle.asdu.specs.declared.file.Frq.{Frq}
+use Rattle.asdu.specs.declared.file.Srq.{Srq}
+use Rattle.asdu.specs.declared.file.Lsq.{Lsq}
+use Rattle.asdu.specs.declared.file.Chs.{Chs}
+use Rattle.asdu.specs.declared.header.Header.{Header}
+use Rattle.asdu.specs.declared.header.UnknownField.{UnknownField}
+use Rattle.asdu.specs.declared.error.FtError.the-variants as E
+use Rattle.frame.specs.declared.Frame.{Frame}
+use Rattle.frame.specs.declared.Frame.the-variants as F
+use Rattle.ft.specs.Checksum.{checksum}
+use Rattle.ft.specs.Admission.{onAnswer}
+use Rattle.ft.specs.declared.admit.Received.{Received}
+use Rattle.ft.specs.declared.admit.Reaction.{Reaction}
+use Rattle.ft.specs.declared.admit.Reaction.the-variants as A
+use Rattle.receive.specs.Record.{storeAgrees, sending, holding, stating, ended, keptOctets, stagedOctets, written, request, acknowledge, awaited, stepped}
+use Rattle.receive.specs.declared.Receiver.{Receiver}
+use Rattle.receive.specs.declared.ReceiverStep.{ReceiverStep}
+use Rattle.receive.specs.declared.ReceiverAnswer.{ReceiverAnswer}
+use Rattle.receive.specs.declared.ReceiverAnswer.the-variants.{Running, Send, Complete, FileNotReady, SectionNotReady, FileChecksum, UnknownLsq, Refused, Err}
+
+-- ---- steps that leave the store as it is
+
+-- a frame goes out, and its answer is awaited
+abbrev pub asks : Receiver → Frame → ReceiverStep
+asks r f = stepped (sending r f) (Send f)
+
+-- the file is ready, or it is not; its length is recorded
+unfoldable pub onFileReady : Receiver → Lof → Frq → ReceiverStep
+onFileReady r lof frq =
+    when (frq .«negative_confirm») (stepped (ended r) (FileNotReady frq)) (asks (stating r (lof .value)) (request r 2 (record { value = 0 })))
+
+-- a section is ready, or it is not; one under way is dropped
+unfoldable pub onSectionReady : Receiver → Nos → Srq → ReceiverStep
+onSectionReady r nos srq =
+    when (srq .«not_ready») (stepped (ended r) (SectionNotReady nos srq)) (asks (holding r (r .kept) 0) (request r 6 nos))
+
+-- a section's close: an equal sum accepts the section, another drops it
+unfoldable pub onSectionClose : Receiver → List ℕ → Nos → Chs → ReceiverStep
+onSectionClose r store nos chs =
+    when (eqb (checksum (stagedOctets r store)) (chs .value)) (asks (holding r (r .kept + r .staged) 0) (acknowledge r 3 nos))
+    (asks (holding r (r .kept) 0) (acknowledge r 4 nos))
+
+-- the transfer is over: a section under way is dropped, and the accepted count stays
+abbrev pub closing : Receiver → Frame → Receiver
+closing r ack = ended (sending (holding r (r .kept) 0) ack)
+
+-- the file's close: the sum of the accepted octets only
+unfoldable pub onFileClose : Receiver → List ℕ → Nos → Chs → ReceiverStep
+onFileClose r store nos chs =
+    when (eqb (checksum (keptOctets r store)) (chs .value))
+    (stepped (closing r (acknowledge r 1 nos)) (Complete (acknowledge r 1 nos) (r .kept)))
+    (stepped (closing r (acknowledge r 2 nos)) (FileChecksum (acknowledge r 2 nos) (record { value = checksum (keptOctets r store) }) chs))
+
+-- by LSQ: 3 and 4 close a section, 1 and 2 the file; any other ends the transfer
+unfoldable pub onClose : Receiver → List ℕ → Nos → Lsq → Chs → ReceiverStep
+onClose r store nos lsq chs =
+    when (eqb (lsq .value) 3 or eqb (lsq .value) 4) (onSectionClose r store nos chs)
+    (when (eqb (lsq .value) 1 or eqb (lsq .value) 2) (onFileClose r store nos chs)
+    (stepped (ended r) (UnknownLsq lsq)))
+
+-- ---- record, answer and store together
+
+pub record Outcome : Type 0 where
+  pub step : ReceiverStep
+  pub store : List ℕ
+
+abbrev pub leaving : List ℕ → ReceiverStep → Outcome
+leaving store s = record { step = s; store = store }
+
+-- a segment is written after what is held: 24 where the store cannot take it
+unfoldable pub onSegment : Receiver → List ℕ → List ℕ → Outcome
+onSegment r store payload =
+    unless (leb (r .kept + r .staged + length payload) (length store)) (leaving store (stepped r (Err E.StoreFull)))
+    (leaving (written store (r .kept + r .staged) payload) (stepped (holding r (r .kept) (r .staged + length payload)) Running))
+
+abbrev pub onAnswered : Receiver → List ℕ → List ℕ → Frame → Outcome
+onAnswered r store payload (F.FileReady ioa nof lof frq) = leaving store (onFileReady r lof frq)
+onAnswered r store payload (F.SectionReady ioa nof nos lof srq) = leaving store (onSectionReady r nos srq)
+onAnswered r store payload (F.Sc ioa nof nos scq) = leaving store (stepped r Running)
+onAnswered r store payload (F.LastSection ioa nof nos lsq chs) = leaving store (onClose r store nos lsq chs)
+onAnswered r store payload (F.Ack ioa nof nos afq) = leaving store (stepped r Running)
+onAnswered r store payload (F.Segment ioa nof nos los) = onSegment r store payload
+onAnswered r store payload (F.Directory ioa cause) = leaving store (stepped r Running)
+onAnswered r store payload (F.QueryLog ioa nof start stop) = leaving store (stepped r Running)
+
+-- by what admission makes of the frame
+abbrev pub receiveAdmitted : Receiver → List ℕ → List ℕ → Reaction → Outcome
+receiveAdmitted r store payload (A.Requested f) = leaving store (stepped r Running)
+receiveAdmitted r store payload (A.Answered f) = onAnswered r store payload f
+receiveAdmitted r store payload (A.Refused cause mirror) = leaving store (stepped (ended r) (Refused cause mirror))
+receiveAdmitted r store payload (A.Discard why) = leaving store (stepped r Running)
+receiveAdmitted r store payload A.Other = leaving store (stepped r Running)
+receiveAdmitted r store payload (A.Err e) = leaving store (stepped r (Err e))
+
+-- one frame handed to the Receiver, with what stands beside it: 26 first, then a done record is answered with nothing, then admission with 23; 24 last
+unfoldable pub receive : Receiver → List ℕ → Header → UnknownField → Received → List ℕ → Outcome
+receive r store h unknown received beside =
+    unless (storeAgrees r store) (leaving store (stepped r (Err E.RecordMismatch)))
+    (when (r .done) (leaving store (stepped r Running))
+    (receiveAdmitted r store beside (onAnswer (r .procedure) h unknown received beside (awaited r))))
+
+-- whether an answer is a numbered refusal
+abbrev pub isRefusal : ReceiverAnswer → Bool
+isRefusal Running = false
+isRefusal (Send f) = false
+isRefusal (Complete ack n) = false
+isRefusal (FileNotReady frq) = false
+isRefusal (SectionNotReady nos srq) = false
+isRefusal (FileChecksum ack expected got) = false
+isRefusal (UnknownLsq lsq) = false
+isRefusal (Refused cause mirror) = false
+isRefusal (Err e) = true
