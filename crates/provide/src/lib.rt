@@ -1,5 +1,7 @@
 // The providing side of a file transfer (IEC 60870-5-101, 7.4.11): one file, cut into sections, and
 // what a Provider answers to the requests for it. The file's octets are lent to each call.
+mod sections; // sections and segments as parts of the lent file
+
 use asdu::error::FtError;
 use asdu::file::Afq;
 use asdu::file::Nof;
