@@ -1,5 +1,6 @@
 // The providing side of a file transfer (IEC 60870-5-101, 7.4.11): one file, cut into sections, and
 // what a Provider answers to the requests for it. The file's octets are lent to each call.
+mod record; // the Provider's record, its making and its agreement with the lent file
 mod sections; // sections and segments as parts of the lent file
 
 use asdu::error::FtError;
@@ -22,6 +23,12 @@ pub struct Provider {
     // How many requests named another object address or file. It stays at its largest value.
     pub unmatched: u32,
     pub done: bool,
+}
+
+// Which file a record is of.
+pub struct FileName {
+    pub ioa: u32,
+    pub nof: Nof,
 }
 
 pub enum ProviderResult {
