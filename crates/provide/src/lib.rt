@@ -1,6 +1,7 @@
 // The providing side of a file transfer (IEC 60870-5-101, 7.4.11): one file, cut into sections, and
 // what a Provider answers to the requests for it. The file's octets are lent to each call.
 mod record; // the Provider's record, its making and its agreement with the lent file
+mod request; // what a Provider makes of a received frame
 mod sections; // sections and segments as parts of the lent file
 
 use asdu::error::FtError;
