@@ -18,7 +18,7 @@ ghost use Rattle.provide.specs.Sections.{sectionLength};
 ghost use Rattle.provide.specs.Record.{freshProvider, providerMade, fileAgrees, ended, counted};
 
 // The largest value of the count of requests for another file.
-pub const MAX_UNMATCHED: u32 = 0xFFFF_FFFF;
+const MAX_UNMATCHED: u32 = 0xFFFF_FFFF;
 
 // Whether a station may send with these settings about this object address.
 fn is_addressed(procedure: FileTransferProcedure, ioa: u32) -> bool

@@ -1,5 +1,6 @@
 // How a file is cut: sections that count from 1 (IEC 60870-5-101, 7.2.6.34), and segments that a frame
 // can carry. A part is named by numbers and handed out of the lent octets; none is copied.
+use crate::DEFAULT_SECTION_LEN;
 use asdu::file::Nos;
 ghost use mathlib.Core.Path.{_≡_};
 ghost use Prim.Native.Nat.{_+_, _*_, _≤_, _<_, min};
@@ -7,11 +8,8 @@ ghost use lib.ListN.{take, drop};
 ghost use Rattle.lists.specs.Parts.{divCeil};
 ghost use Rattle.provide.specs.Sections.{sectionLength, sectionCount, sectionOctets};
 
-// The section length of a file that needs no longer ones.
-pub const DEFAULT_SECTION_LEN: u32 = 4096;
-
 // The most sections that a NOS can name.
-pub const MAX_SECTIONS: usize = 255;
+const MAX_SECTIONS: usize = 255;
 
 fn least(a: usize, b: usize) -> usize
     ensures { λ r. ⌜ r ≡ min a b ⌝ }
@@ -52,7 +50,7 @@ pub(crate) fn section_count(length: u32) -> usize
 
 // The part of this size at an index from 0; empty past the end.
 pub(crate) fn part(octets: &[u8], size: usize, index: usize) -> &[u8]
-    requires { ⌜ (size ≤ 0xFFFFFFFF) × (index ≤ 0x1FFFFFFF) ⌝ }
+    requires { ⌜ (size ≤ 0xFFFFFFFF) × (index ≤ 0xFFFFFFFF) ⌝ }
     ensures { λ r. ⌜ now r ≡ take size (drop (index * size) (now (octets .entry))) ⌝ }
 {
     let length = octets.len();
