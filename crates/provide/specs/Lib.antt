@@ -2,4 +2,5 @@ pub mod Sections
 pub mod Record
 pub mod Replies
 pub mod Requests
+pub mod Refusals
 pub mod Table

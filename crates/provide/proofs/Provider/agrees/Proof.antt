@@ -1,6 +1,6 @@
 use Rattle.laws.proofs.Decide.{whens, yes, nay}
 use borrow.Author.Needs.{needs}
-use borrow.Author.Tests.{le-leb, lt-leb, lt-ltb, le-ltb}
+use borrow.Author.Tests.{le-leb, lt-leb}
 use Rattle.provide.specs.Record.{fileAgrees}
 use Rattle.provide.proofs.Provider.agrees.Statement.{statement}
 use Rattle.provide.proofs.Provider.agrees.Tie as tie
@@ -17,7 +17,6 @@ agrees-spec =
     simp (
       whens,
       le-leb _ _ (c .before .if2 .taken),
-      le-ltb _ _ (c .before .if2 .taken),
       yes (c .before .before .before .before .before .is-settled .ensures) (c .before .before .before .before .if1 .taken),
       ← (c .is-cut .ensures),
       ← (c .before .before .before .max-ioa .ensures),
@@ -25,7 +24,6 @@ agrees-spec =
     (λ c.
     simp (
       whens,
-      lt-ltb _ _ (c .if2 .left),
       lt-leb _ _ (c .if2 .left),
       yes (c .before .before .before .before .is-settled .ensures) (c .before .before .before .if1 .taken),
       ← (c .before .before .max-ioa .ensures),

@@ -1,6 +1,6 @@
 use Rattle.laws.proofs.Decide.{whens, yes-by-not, nay-by-not}
 use borrow.Author.Needs.{needs}
-use borrow.Author.Tests.{le-leb, lt-leb, lt-ltb, le-ltb}
+use borrow.Author.Tests.{le-leb, lt-leb}
 use Rattle.provide.specs.Record.{providerMade}
 use Rattle.provide.proofs.Provider.new.Statement.{statement}
 use Rattle.provide.proofs.Provider.new.Tie as tie
@@ -23,7 +23,6 @@ new-spec =
     (λ c.
     simp (
       whens,
-      lt-ltb _ _ (c .if3 .taken),
       lt-leb _ _ (c .if3 .taken),
       yes-by-not (c .before .before .is-addressed .ensures) (c .before .if2 .left),
       yes-by-not (c .before .before .before .before .is-right .ensures) (c .before .before .before .if1 .left),
@@ -34,7 +33,6 @@ new-spec =
     simp (
       whens,
       le-leb _ _ (c .before .if3 .left),
-      le-ltb _ _ (c .before .if3 .left),
       yes-by-not (c .before .before .before .is-addressed .ensures) (c .before .before .if2 .left),
       yes-by-not (c .before .before .before .before .before .is-right .ensures) (c .before .before .before .before .if1 .left),
       ← (c .fresh .ensures),

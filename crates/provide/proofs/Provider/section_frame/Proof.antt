@@ -1,6 +1,6 @@
 use Rattle.laws.proofs.Decide.{whens}
 use borrow.Author.Needs.{needs}
-use borrow.Author.Tests.{eq-eqb, ne-eqb, le-leb, lt-leb, lt-ltb, le-ltb}
+use borrow.Author.Tests.{eq-eqb, ne-eqb, lt-ltb, le-ltb}
 use Rattle.provide.specs.Replies.{sectionFrame}
 use mathlib.Core.Path.{ap}
 use denote.Ref.{now}
@@ -30,7 +30,6 @@ section-frame-spec =
     simp (
       whens,
       lt-ltb _ _ (c .before .before .if1 .taken),
-      lt-leb _ _ (c .before .before .if1 .taken),
       ← (c .segment-frame .ensures),
       ← (c .before .segment .ensures),
       ← (c .before .before .before .segment-count .ensures),
@@ -41,17 +40,9 @@ section-frame-spec =
     simp (
       whens,
       eq-eqb _ _ (c .before .before .if2 .taken),
-      le-leb _ _ (c .before .before .before .if1 .left),
       le-ltb _ _ (c .before .before .before .if1 .left),
       ← (c .close-frame .ensures),
       ← (c .before .octets .ensures),
       ← (c .before .before .before .before .segment-count .ensures),
     ))
-    (λ c.
-    simp (
-      whens,
-      ne-eqb _ _ (c .if2 .left),
-      le-leb _ _ (c .before .if1 .left),
-      le-ltb _ _ (c .before .if1 .left),
-      ← (c .before .before .segment-count .ensures),
-    )))
+    (λ c. simp (whens, ne-eqb _ _ (c .if2 .left), le-ltb _ _ (c .before .if1 .left), ← (c .before .before .segment-count .ensures))))

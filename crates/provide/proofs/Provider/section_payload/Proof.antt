@@ -1,6 +1,6 @@
 use Rattle.laws.proofs.Decide.{whens}
 use borrow.Author.Needs.{needs}
-use borrow.Author.Tests.{le-leb, lt-leb, lt-ltb, le-ltb}
+use borrow.Author.Tests.{lt-ltb, le-ltb}
 use Rattle.provide.specs.Replies.{sectionPayload}
 use denote.Ref.{now}
 use Rattle.provide.proofs.Cuts.{segments-most}
@@ -17,20 +17,6 @@ section-payload-spec =
     let s = c .before .before .before in
     let most = segments-most (s .args .self) (now (s .args .file)) (s .args .nos) (s .pre) in
     search needs)
-    (λ c.
-    simp (
-      whens,
-      lt-ltb _ _ (c .before .if1 .taken),
-      lt-leb _ _ (c .before .if1 .taken),
-      ← (c .segment .ensures),
-      ← (c .before .before .segment-count .ensures),
-    ))
+    (λ c. simp (whens, lt-ltb _ _ (c .before .if1 .taken), ← (c .segment .ensures), ← (c .before .before .segment-count .ensures)))
     (λ c κs. search needs)
-    (λ c.
-    simp (
-      whens,
-      le-leb _ _ (c .before .if1 .left),
-      le-ltb _ _ (c .before .if1 .left),
-      ← (c .none .ensures),
-      ← (c .before .before .segment-count .ensures),
-    )))
+    (λ c. simp (whens, le-ltb _ _ (c .before .if1 .left), ← (c .none .ensures), ← (c .before .before .segment-count .ensures))))
