@@ -62,10 +62,10 @@ fn is_cut(length: u32, section_len: u32, n: usize) -> bool
 fn one_more(count: u32) -> u32
     ensures { λ r. ⌜ r ≡ min 4294967295 (count + 1) ⌝ }
 {
-    if count < MAX_UNMATCHED {
-        return count + 1;
+    if MAX_UNMATCHED <= count {
+        return MAX_UNMATCHED;
     }
-    MAX_UNMATCHED
+    count + 1
 }
 
 impl Provider {

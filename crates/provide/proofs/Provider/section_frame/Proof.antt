@@ -1,11 +1,10 @@
 use Rattle.laws.proofs.Decide.{whens}
 use borrow.Author.Needs.{needs}
 use borrow.Author.Tests.{eq-eqb, ne-eqb, lt-ltb, le-ltb}
-use Rattle.provide.specs.Replies.{sectionFrame}
 use mathlib.Core.Path.{ap}
 use denote.Ref.{now}
 use lib.ListN.{length}
-use Rattle.provide.specs.Replies.{octetsOf, limitOf}
+use Rattle.provide.specs.Replies.{octetsOf, limitOf, sectionFrame}
 use Rattle.provide.proofs.Cuts.{segment-most, segments-most, limit-most}
 use Rattle.provide.proofs.Provider.section_frame.Statement.{statement}
 use Rattle.provide.proofs.Provider.section_frame.Tie as tie
