@@ -5,16 +5,14 @@ use mathlib.Core.Bool.{true, false}
 use mathlib.Core.List.{[], _∷_}
 use native.Mathlib.Omega.{arith}
 use native.Mathlib.Nat.{zero-mul}
-use lib.Dec.{leb}
 use lib.ListN.{length}
-use borrow.Author.Tests.{le-leb, leb-true, eq-eqb}
-use Rattle.laws.specs.When.{when, _and_}
+use borrow.Author.Tests.{le-leb, eq-eqb}
+use Rattle.laws.specs.When.{when}
 use Rattle.lists.specs.Parts.{parts}
-use Rattle.asdu.specs.Sizes.{within, sizesRight, headerLen, elementRoom, segmentLimit}
+use Rattle.asdu.specs.Sizes.{sizesRight}
 use Rattle.asdu.proofs.Range.{both}
 use Rattle.asdu.specs.declared.file.Nos.{Nos}
 use Rattle.asdu.specs.declared.file.Lof.{Lof}
-use Rattle.asdu.specs.declared.sizes.AddressSizes.{AddressSizes}
 use Rattle.frame.specs.declared.Frame.the-variants as F
 use Rattle.frame.specs.Answers.{answersTo, namesAgree, calledSection, scAnswered, fileAnswered}
 use Rattle.ft.specs.Procedure.{settled, addressRight}
@@ -22,6 +20,7 @@ use Rattle.provide.specs.Sections.{sections}
 use Rattle.provide.specs.Replies.{fileReady}
 use Rattle.provide.specs.declared.Reply.the-variants.{Nothing, FileReady, SectionReady}
 use Rattle.provide.specs.declared.ProviderAnswer.the-variants as PA
+use Rattle.provide.proofs.Cuts.{limit-least}
 use Rattle.provide.proofs.Facts.{selects-file, requests-file}
 use Rattle.provide.proofs.Sections.{some-section}
 use Rattle.receive.specs.Answers.{onFileReady}
@@ -35,23 +34,11 @@ use Rattle.exchange.proofs.Steps.{Ends, Ex, sc, ask, asked-sc, takes}
 use Rattle.exchange.proofs.Sendings.{limit}
 use Rattle.exchange.proofs.Sections.{Awaits, size, count, number, Pass, sections-pass}
 
-within-most : (low high x : ℕ) → within low high x ≡ true → x ≤ high
-unfolding within
-within-most low high x e = leb-true x high (both (leb low x) (leb x high) e .1)
-
--- a segment holds something at every width
-limit-wide : (z : AddressSizes) → sizesRight z ≡ true → 0 < segmentLimit z
-unfolding sizesRight segmentLimit elementRoom headerLen
-limit-wide z e =
-    let (c, rest) = both (within 1 2 (z .«cause_octets»)) (within 1 2 (z .«common_address_octets») and within 1 3 (z .«information_object_address_octets»)) e in
-    let (a, o) = both (within 1 2 (z .«common_address_octets»)) (within 1 3 (z .«information_object_address_octets»)) rest in
-    omega (arith, within-most 1 2 (z .«cause_octets») c, within-most 1 2 (z .«common_address_octets») a, within-most 1 3 (z .«information_object_address_octets») o)
-
 module _ (m : Transfer) where
   pub wide : 0 < limit m
   unfolding settled
   wide =
-      limit-wide (m .provider-station .sizes)
+      limit-least (m .provider-station .sizes)
       (both (sizesRight (m .provider-station .sizes)) (addressRight (m .provider-station .sizes) (m .provider-station .ca) (m .provider-station .org)) (settings m) .0)
 
   abbrev none : Nos

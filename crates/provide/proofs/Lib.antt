@@ -1,3 +1,4 @@
+pub mod Cuts
 pub mod Sections
 pub mod Facts
 pub mod Making

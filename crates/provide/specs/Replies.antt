@@ -124,6 +124,10 @@ payloadAt p file (SectionReady nos) i = []
 payloadAt p file (Section nos) i = sectionPayload p file nos i
 payloadAt p file (FileClose nos) i = []
 
+-- nothing where record and file disagree
+unfoldable pub replyPayload : Provider → List ℕ → Reply → ℕ → List ℕ
+replyPayload p file r i = unless (fileAgrees p file) [] (payloadAt p file r i)
+
 -- ---- the offer without a select
 
 abbrev pub frameOf : AsduResult → FrameResult

@@ -1,5 +1,10 @@
 // The providing side of a file transfer (IEC 60870-5-101, 7.4.11): one file, cut into sections, and
 // what a Provider answers to the requests for it. The file's octets are lent to each call.
+mod frames; // the frames of a reply, by their index
+mod record; // the Provider's record, its making and its agreement with the lent file
+mod request; // what a Provider makes of a received frame
+mod sections; // sections and segments as parts of the lent file
+
 use asdu::error::FtError;
 use asdu::file::Afq;
 use asdu::file::Nof;
@@ -8,6 +13,9 @@ use asdu::file::Scq;
 use asdu::header::Cause;
 use frame::Frame;
 use ft::procedure::FileTransferProcedure;
+
+// The section length of a file that needs no longer ones.
+pub const DEFAULT_SECTION_LEN: u32 = 4096;
 
 // The record of one file's transfer.
 pub struct Provider {
@@ -20,6 +28,12 @@ pub struct Provider {
     // How many requests named another object address or file. It stays at its largest value.
     pub unmatched: u32,
     pub done: bool,
+}
+
+// Which file a record is of.
+pub struct FileName {
+    pub ioa: u32,
+    pub nof: Nof,
 }
 
 pub enum ProviderResult {

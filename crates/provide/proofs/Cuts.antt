@@ -1,0 +1,104 @@
+-- The bounds of a section's length and count, a part as it is named by two numbers, and what the agreement of record and file gives.
+use mathlib.Core.Path.{_≡_, refl, ap}
+use mathlib.Core.Bool.{Bool, true, false}
+use mathlib.Core.List.{List, [], _∷_}
+use Prim.Native.Nat.{ℕ, zero, suc, _+_, _-_, _*_, _≤_, _<_, min}
+use native.Mathlib.Nat.{zero-min, suc-min-suc, add-sub-cancel-left, le-max-left, le-max-right, max-le, min-le-left, min-le-right, mul-le-mul, le-trans, lt-of-le-of-lt, lt-of-mul-lt-mul-right}
+use native.Mathlib.Omega.{arith}
+use lib.Dec.{eqb, leb, lit<, lit≤}
+use lib.ListN.{length, take, drop, length-take, length-drop}
+use lib.Seq.{take-nil, drop-nil}
+use mir.Val.{Fits}
+use mir.Syntax.{w64}
+use borrow.Author.Tests.{leb-true}
+use Rattle.laws.specs.When.{when, _and_}
+use Rattle.laws.proofs.Decide.{whens}
+use Rattle.lists.specs.Parts.{divCeil}
+use Rattle.lists.proofs.Parts.{ceil-enough, ceil-least}
+use Rattle.asdu.proofs.Range.{both}
+use Rattle.asdu.specs.Sizes.{within, sizesRight, headerLen, elementRoom, segmentLimit}
+use Rattle.asdu.specs.declared.file.Nos.{Nos}
+use Rattle.asdu.specs.declared.sizes.AddressSizes.{AddressSizes}
+use Rattle.ft.specs.Procedure.{settled}
+use Rattle.provide.specs.Sections.{sectionLength, sectionCount, sectionOctets, segmentOctets}
+use Rattle.provide.specs.Record.{fileAgrees}
+use Rattle.provide.specs.Replies.{octetsOf, limitOf, segmentCount}
+use Rattle.provide.specs.declared.Provider.{Provider}
+
+pub product-fits : (k n : ℕ) → k ≤ 0xFFFFFFFF → n ≤ 0xFFFFFFFF → Fits w64 (k * n)
+product-fits k n p q = record { fits = lt-of-le-of-lt (mul-le-mul p q) (lit< tt) }
+
+-- ---- lengths and counts
+
+pub length-least : (n : ℕ) → 4096 ≤ sectionLength n
+unfolding sectionLength
+length-least n = le-max-left 4096 (divCeil n 255)
+
+-- a 255th of a 32-bit length has 32 bits
+pub fitted-most : (n : ℕ) → n ≤ 0xFFFFFFFF → divCeil n 255 ≤ 0xFFFFFFFF
+unfolding divCeil
+fitted-most n h = omega arith
+
+-- ---- parts
+
+take-short : (n : ℕ) (l : List ℕ) → take (min n (length l)) l ≡ take n l
+take-short zero l = rw zero-min
+take-short (suc n) [] = simp take-nil
+take-short (suc n) (x ∷ l) = rw suc-min-suc (ap (λ (t : List ℕ). x ∷ t) (take-short n l))
+
+drop-short : (n : ℕ) (l : List ℕ) → drop (min n (length l)) l ≡ drop n l
+drop-short zero l = rw zero-min
+drop-short (suc n) [] = simp drop-nil
+drop-short (suc n) (x ∷ l) = rw suc-min-suc (drop-short n l)
+
+-- from a start to an end that both stay within the octets
+pub part-named : (s : List ℕ) (size at : ℕ) → take (min at (length s) + min size (length s - min at (length s)) - min at (length s)) (drop (min at (length s)) s) ≡ take size (drop at s)
+part-named s size at = rw (add-sub-cancel-left, ← length-drop, take-short, drop-short)
+
+-- ---- a section's octets and segments
+
+pub section-most : (size : ℕ) (file : List ℕ) (nos : ℕ) → length (sectionOctets size file nos) ≤ size
+unfolding sectionOctets
+section-most size file nos = go (eqb nos 0)
+  where
+    go : (b : Bool) → length (when b [] (take size (drop ((nos - 1) * size) file))) ≤ size
+    go true = simp whens (omega arith)
+    go false = simp (whens, length-take) (min-le-left size _)
+
+pub segment-most : (limit : ℕ) (section : List ℕ) (i : ℕ) → length (segmentOctets limit section i) ≤ limit
+unfolding segmentOctets
+segment-most limit section i = simp length-take (min-le-left limit _)
+
+pub ceil-most : (a b : ℕ) → 0 < b → divCeil a b ≤ a
+ceil-most a (suc b) h =
+    let l = ceil-least a (suc b) h in
+    omega (arith, lt-of-mul-lt-mul-right (suc b) {m = divCeil a (suc b)} {n = a + 1} (omega arith))
+
+pub limit-most : (z : AddressSizes) → segmentLimit z ≤ 240
+unfolding segmentLimit
+limit-most z = min-le-right (elementRoom z - 4) 240
+
+pub segments-most : (p : Provider) (file : List ℕ) (nos : Nos) → 0 < limitOf p → segmentCount p file nos ≤ p .«section_len»
+unfolding segmentCount
+segments-most p file nos h =
+    le-trans (ceil-most (length (octetsOf p file nos)) (limitOf p) h) (section-most (p .«section_len») file (nos .value))
+
+-- ---- of a record that agrees with the lent file
+
+-- both of two tests that hold together
+within-most : (low high x : ℕ) → within low high x ≡ true → x ≤ high
+unfolding within
+within-most low high x h = leb-true x high (both (leb low x) (leb x high) h .1)
+
+pub limit-least : (z : AddressSizes) → sizesRight z ≡ true → 0 < segmentLimit z
+unfolding sizesRight segmentLimit elementRoom headerLen
+limit-least z h =
+    let a = within-most 1 2 (z .«cause_octets») (both _ _ h .0) in
+    let b = within-most 1 2 (z .«common_address_octets») (both _ _ (both _ _ h .1) .0) in
+    let d = within-most 1 3 (z .«information_object_address_octets») (both _ _ (both _ _ h .1) .1) in
+    omega arith
+
+-- a segment of its station can hold something
+pub agreed-limit : (p : Provider) (file : List ℕ) → fileAgrees p file ≡ true → 0 < limitOf p
+unfolding fileAgrees settled
+agreed-limit p file h = limit-least (p .procedure .sizes) (both _ _ (both _ _ h .0) .0)

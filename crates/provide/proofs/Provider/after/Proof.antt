@@ -1,0 +1,18 @@
+use Rattle.laws.proofs.Decide.{whens}
+use borrow.Author.Needs.{needs}
+use borrow.Author.Tests.{lt-ltb, le-ltb}
+use Rattle.provide.specs.Requests.{after}
+use Rattle.provide.proofs.Sections.{few-sections}
+use Rattle.provide.proofs.Provider.after.Statement.{statement}
+use Rattle.provide.proofs.Provider.after.Tie as tie
+
+pub after-spec : {M : Type 1} → statement M
+unfolding after
+after-spec =
+    tie.close
+    (tie.spec
+    (λ c. search needs)
+    (λ c κs. search needs)
+    (λ c. let f = few-sections (c .before .before .args .self .length) in search needs)
+    (λ c. simp (whens, lt-ltb _ _ (c .if1 .taken), ← (c .before .section-count .ensures)))
+    (λ c. simp (whens, le-ltb _ _ (c .if1 .left), ← (c .before .section-count .ensures))))

@@ -1,0 +1,20 @@
+use Rattle.laws.proofs.Decide.{whens}
+use borrow.Author.Needs.{needs}
+use Rattle.provide.proofs.Provider.count_of.Statement.{statement}
+use Rattle.provide.proofs.Provider.count_of.Tie as tie
+
+pub count-of-spec : {M : Type 1} → statement M
+count-of-spec =
+    tie.close
+    (tie.spec
+    (λ c. search needs)
+    (λ c. search needs)
+    (λ c. search needs)
+    (λ c. search needs)
+    (λ c κs. search needs)
+    (λ c. search needs)
+    (λ c. simp (whens, c .enum-told .given .1))
+    (λ c. simp (whens, c .enum-told2 .given .1))
+    (λ c. simp (whens, c .enum-told3 .given .1))
+    (λ c. simp (whens, c .before .known-told .given .1, c .before .before .reply .given .1, ← (c .section-frames .ensures)))
+    (λ c. simp (whens, c .enum-told4 .given .1)))

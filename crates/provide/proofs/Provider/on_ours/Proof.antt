@@ -1,0 +1,33 @@
+use Rattle.laws.proofs.Decide.{whens}
+use borrow.Author.Needs.{needs}
+use Rattle.provide.proofs.Provider.on_ours.Statement.{statement}
+use Rattle.provide.proofs.Provider.on_ours.Tie as tie
+
+pub on-ours-spec : {M : Type 1} → statement M
+on-ours-spec =
+    tie.close
+    (tie.spec
+    (λ c. search needs)
+    (λ c κs. search needs)
+    (λ c. search needs)
+    (λ c κs. search needs)
+    (λ c. search needs)
+    (λ c κs. search needs)
+    (λ c. search needs)
+    (λ c κs. search needs)
+    (λ c. search needs)
+    (λ c κs. search needs)
+    (λ c. search needs)
+    (λ c κs. search needs)
+    (λ c. search needs)
+    (λ c κs. search needs)
+    (λ c. search needs)
+    (λ c κs. search needs)
+    (λ c. simp (whens, c .before .known-told .given .1, c .before .before .frame .given .1, ← (c .on-sc .ensures)))
+    (λ c. simp (whens, c .before .known-told2 .given .1, c .before .before .frame2 .given .1, ← (c .on-ack .ensures)))
+    (λ c. simp (whens, c .before .enum-told .given .1, ← (c .reply .ensures)))
+    (λ c. simp (whens, c .before .enum-told2 .given .1, ← (c .reply2 .ensures)))
+    (λ c. simp (whens, c .before .enum-told3 .given .1, ← (c .reply3 .ensures)))
+    (λ c. simp (whens, c .before .enum-told4 .given .1, ← (c .reply4 .ensures)))
+    (λ c. simp (whens, c .before .enum-told5 .given .1, ← (c .reply5 .ensures)))
+    (λ c. simp (whens, c .before .enum-told6 .given .1, ← (c .reply6 .ensures))))

@@ -1,0 +1,13 @@
+use Rattle.laws.proofs.Decide.{whens}
+use borrow.Author.Needs.{needs}
+use Rattle.provide.proofs.frames.frame_of.Statement.{statement}
+use Rattle.provide.proofs.frames.frame_of.Tie as tie
+
+pub frame-of-spec : {M : Type 1} → statement M
+frame-of-spec =
+    tie.close
+    (tie.spec
+    (λ c. search needs)
+    (λ c. search needs)
+    (λ c. simp (whens, c .known-told .given .1, c .before .made .given .1))
+    (λ c. simp (whens, c .known-told2 .given .1, c .before .made2 .given .1)))

@@ -1,0 +1,277 @@
+// The frames that a Provider sends. A reply has a count, and each frame below it is made when it is
+// asked for by its index; a segment's payload is the named part of the lent file. Only the frame that
+// closes a section or the file reads the octets, to sum them.
+use crate::CountResult;
+use crate::FrameResult;
+use crate::Provider;
+use crate::Reply;
+use crate::sections;
+use asdu::error::FtError;
+use asdu::file::Frq;
+use asdu::file::Lof;
+use asdu::file::Los;
+use asdu::file::Lsq;
+use asdu::file::Nos;
+use asdu::file::Srq;
+use asdu::sizes;
+use frame::Frame;
+use ft::build::AsduResult;
+use ft::checksum;
+ghost use mathlib.Core.Path.{_≡_};
+ghost use mathlib.Core.List.{[]};
+ghost use Prim.Native.Nat.{_+_, _≤_, _<_};
+ghost use lib.ListN.{length};
+ghost use Rattle.provide.specs.Replies.{fileReady, octetsOf, sectionReady, segmentFrame, closeFrame, limitOf, segmentCount, countOf, replyCount, only, segmentOf, sectionFrame, frameAt, replyFrame, sectionPayload, payloadAt, replyPayload, frameOf, announced};
+
+// No octets.
+fn none(octets: &[u8]) -> &[u8]
+    ensures { λ r. ⌜ now r ≡ [] ⌝ }
+{
+    &octets[0..0]
+}
+
+// The one frame of a reply, at index 0.
+fn only(frame: Frame, index: usize) -> FrameResult
+    ensures { λ r. ⌜ r ≡ only frame index ⌝ }
+{
+    if index == 0 {
+        return FrameResult::Ok(frame);
+    }
+    FrameResult::Err(FtError::IndexOutOfRange)
+}
+
+// The frame without its header.
+fn frame_of(made: AsduResult) -> FrameResult
+    ensures { λ r. ⌜ r ≡ frameOf made ⌝ }
+{
+    match made {
+        AsduResult::Ok(asdu) => {
+            let frame = asdu.frame;
+            FrameResult::Ok(frame)
+        }
+        AsduResult::Err(error) => FrameResult::Err(error),
+    }
+}
+
+impl Provider {
+    fn file_ready(self) -> Frame
+        ensures { λ r. ⌜ r ≡ fileReady self ⌝ }
+    {
+        let nof = self.nof;
+        Frame::FileReady {
+            ioa: self.ioa,
+            nof,
+            lof: Lof { value: self.length },
+            frq: Frq {
+                value: 0,
+                negative_confirm: false,
+            },
+        }
+    }
+
+    // Section `nos` of the lent file.
+    fn octets(self, file: &[u8], nos: Nos) -> &[u8]
+        ensures { λ r. ⌜ now r ≡ octetsOf self (now (file .entry)) nos ⌝ }
+    {
+        sections::section(file, self.section_len, nos)
+    }
+
+    fn section_ready(self, file: &[u8], nos: Nos) -> Frame
+        ensures { λ r. ⌜ r ≡ sectionReady self (now (file .entry)) nos ⌝ }
+    {
+        let nof = self.nof;
+        let octets = self.octets(file, nos);
+        Frame::SectionReady {
+            ioa: self.ioa,
+            nof,
+            nos,
+            lof: Lof {
+                value: octets.len() as u32,
+            },
+            srq: Srq {
+                value: 0,
+                not_ready: false,
+            },
+        }
+    }
+
+    fn segment_frame(self, nos: Nos, payload: &[u8]) -> Frame
+        requires { ⌜ length (now payload) ≤ 240 ⌝ }
+        ensures { λ r. ⌜ r ≡ segmentFrame self nos (now (payload .entry)) ⌝ }
+    {
+        let nof = self.nof;
+        Frame::Segment {
+            ioa: self.ioa,
+            nof,
+            nos,
+            los: Los {
+                value: payload.len() as u8,
+            },
+        }
+    }
+
+    // The last segment of a section or the last section of the file, with the sum of the octets.
+    fn close_frame(self, nos: Nos, lsq: u8, octets: &[u8]) -> Frame
+        ensures { λ r. ⌜ r ≡ closeFrame self nos lsq (now (octets .entry)) ⌝ }
+    {
+        let nof = self.nof;
+        let chs = checksum::checksum(octets);
+        Frame::LastSection {
+            ioa: self.ioa,
+            nof,
+            nos,
+            lsq: Lsq { value: lsq },
+            chs,
+        }
+    }
+
+    // What a segment of this station can hold.
+    fn limit(self) -> usize
+        ensures { λ r. ⌜ r ≡ limitOf self ⌝ }
+    {
+        let procedure = self.procedure;
+        let sizes = procedure.sizes;
+        sizes::max_segment(sizes)
+    }
+
+    fn segment_count(self, file: &[u8], nos: Nos) -> usize
+        requires { ⌜ 0 < limitOf self ⌝ }
+        ensures { λ r. ⌜ r ≡ segmentCount self (now (file .entry)) nos ⌝ }
+    {
+        let octets = self.octets(file, nos);
+        sections::div_ceil(octets.len(), self.limit())
+    }
+
+    // Segment `index` of section `nos`.
+    fn segment(self, file: &[u8], nos: Nos, index: usize) -> &[u8]
+        requires { ⌜ index ≤ 0xFFFFFFFF ⌝ }
+        ensures { λ r. ⌜ now r ≡ segmentOf self (now (file .entry)) nos index ⌝ }
+    {
+        let octets = self.octets(file, nos);
+        sections::part(octets, self.limit(), index)
+    }
+
+    // The frames of section `nos`: its segments and its close.
+    fn section_frames(self, file: &[u8], nos: Nos) -> usize
+        requires { ⌜ 0 < limitOf self ⌝ }
+        ensures { λ r. ⌜ r ≡ segmentCount self (now (file .entry)) nos + 1 ⌝ }
+    {
+        self.segment_count(file, nos) + 1
+    }
+
+    fn count_of(self, file: &[u8], reply: Reply) -> usize
+        requires { ⌜ 0 < limitOf self ⌝ }
+        ensures { λ r. ⌜ r ≡ countOf self (now (file .entry)) reply ⌝ }
+    {
+        match reply {
+            Reply::Nothing => 0,
+            Reply::FileReady => 1,
+            Reply::SectionReady(_) => 1,
+            Reply::Section(nos) => self.section_frames(file, nos),
+            Reply::FileClose(_) => 1,
+        }
+    }
+
+    // A section's segments, then its close.
+    fn section_frame(self, file: &[u8], nos: Nos, index: usize) -> FrameResult
+        requires { ⌜ 0 < limitOf self ⌝ }
+        ensures { λ r. ⌜ r ≡ sectionFrame self (now (file .entry)) nos index ⌝ }
+    {
+        let count = self.segment_count(file, nos);
+        if index < count {
+            let payload = self.segment(file, nos, index);
+            return FrameResult::Ok(self.segment_frame(nos, payload));
+        }
+        if index == count {
+            let octets = self.octets(file, nos);
+            return FrameResult::Ok(self.close_frame(
+                nos,
+                Lsq::SECTION_WITHOUT_DEACTIVATION,
+                octets,
+            ));
+        }
+        FrameResult::Err(FtError::IndexOutOfRange)
+    }
+
+    fn frame_at(self, file: &[u8], reply: Reply, index: usize) -> FrameResult
+        requires { ⌜ 0 < limitOf self ⌝ }
+        ensures { λ r. ⌜ r ≡ frameAt self (now (file .entry)) reply index ⌝ }
+    {
+        match reply {
+            Reply::Nothing => FrameResult::Err(FtError::IndexOutOfRange),
+            Reply::FileReady => only(self.file_ready(), index),
+            Reply::SectionReady(nos) => only(self.section_ready(file, nos), index),
+            Reply::Section(nos) => self.section_frame(file, nos, index),
+            Reply::FileClose(nos) => only(
+                self.close_frame(nos, Lsq::FILE_WITHOUT_DEACTIVATION, file),
+                index,
+            ),
+        }
+    }
+
+    fn section_payload(self, file: &[u8], nos: Nos, index: usize) -> &[u8]
+        requires { ⌜ 0 < limitOf self ⌝ }
+        ensures { λ r. ⌜ now r ≡ sectionPayload self (now (file .entry)) nos index ⌝ }
+    {
+        if index < self.segment_count(file, nos) {
+            return self.segment(file, nos, index);
+        }
+        none(file)
+    }
+
+    fn payload_at(self, file: &[u8], reply: Reply, index: usize) -> &[u8]
+        requires { ⌜ 0 < limitOf self ⌝ }
+        ensures { λ r. ⌜ now r ≡ payloadAt self (now (file .entry)) reply index ⌝ }
+    {
+        match reply {
+            Reply::Nothing => none(file),
+            Reply::FileReady => none(file),
+            Reply::SectionReady(_) => none(file),
+            Reply::Section(nos) => self.section_payload(file, nos, index),
+            Reply::FileClose(_) => none(file),
+        }
+    }
+
+    // How many frames a reply has; 26 where record and file disagree.
+    pub fn reply_count(self, file: &[u8], reply: Reply) -> CountResult
+        ensures { λ r. ⌜ r ≡ replyCount self (now (file .entry)) reply ⌝ }
+    {
+        if self.agrees(file) {
+            return CountResult::Ok(self.count_of(file, reply));
+        }
+        CountResult::Err(FtError::RecordMismatch)
+    }
+
+    // The frame at an index of a reply: 26, then 9 where the index is not below the count.
+    pub fn reply_frame(self, file: &[u8], reply: Reply, index: usize) -> FrameResult
+        ensures { λ r. ⌜ r ≡ replyFrame self (now (file .entry)) reply index ⌝ }
+    {
+        if self.agrees(file) {
+            return self.frame_at(file, reply, index);
+        }
+        FrameResult::Err(FtError::RecordMismatch)
+    }
+
+    // What stands beside the frame at an index: a segment's octets, the named part of the lent file;
+    // beside another frame, or where there is none, nothing.
+    pub fn reply_payload(self, file: &[u8], reply: Reply, index: usize) -> &[u8]
+        ensures { λ r. ⌜ now r ≡ replyPayload self (now (file .entry)) reply index ⌝ }
+    {
+        if self.agrees(file) {
+            return self.payload_at(file, reply, index);
+        }
+        none(file)
+    }
+
+    // The file ready that offers the file without a select: how the control direction's provider opens
+    // the transfer. 26, then what `build` refuses; a done record announces too.
+    pub fn announce(self, file: &[u8]) -> FrameResult
+        ensures { λ r. ⌜ r ≡ announced self (now (file .entry)) ⌝ }
+    {
+        let procedure = self.procedure;
+        if self.agrees(file) {
+            return frame_of(procedure.build(self.file_ready(), none(file)));
+        }
+        FrameResult::Err(FtError::RecordMismatch)
+    }
+}

@@ -1,0 +1,167 @@
+// What a Provider makes of a received frame (IEC 60870-5-101, 7.4.11): the requests and
+// acknowledgements of its own file are answered, one for another file is counted.
+use crate::Provider;
+use crate::ProviderAnswer;
+use crate::ProviderStep;
+use crate::Reply;
+use crate::sections;
+use asdu::error::FtError;
+use asdu::file::Afq;
+use asdu::file::Nof;
+use asdu::file::Nos;
+use asdu::file::Scq;
+use asdu::header::Header;
+use asdu::header::UnknownField;
+use frame::Frame;
+use frame::answer;
+use frame::answer::SomeNof;
+use ft::admit::Reaction;
+use ft::admit::Received;
+ghost use mathlib.Core.Path.{_≡_};
+ghost use Rattle.frame.specs.Answers.{nofAgree};
+ghost use Rattle.frame.specs.declared.answer.SomeNof.the-variants as N;
+ghost use Rattle.provide.specs.Requests.{stepped, replying, onSc, after, onAck, isOurs, onOurs, onRequest, provideAdmitted, provide};
+
+// Whether a frame that has a name of file names this one.
+fn names_file(name: SomeNof, nof: Nof) -> bool
+    ensures { λ r. ⌜ r ≡ nofAgree name (N.Some nof) ⌝ }
+{
+    match name {
+        SomeNof::Some(x) => x.value == nof.value,
+        SomeNof::None => true,
+    }
+}
+
+impl Provider {
+    // The record with an answer.
+    fn step(self, answer: ProviderAnswer) -> ProviderStep
+        ensures { λ r. ⌜ r ≡ stepped self answer ⌝ }
+    {
+        ProviderStep {
+            provider: self,
+            answer,
+        }
+    }
+
+    // The transfer goes on, with this to send.
+    fn reply(self, reply: Reply) -> ProviderStep
+        ensures { λ r. ⌜ r ≡ replying self reply ⌝ }
+    {
+        ProviderStep {
+            provider: self,
+            answer: ProviderAnswer::Running(reply),
+        }
+    }
+
+    // A request, by the action of SCQ (7.2.6.30); one that asks for nothing ends the transfer.
+    fn on_sc(self, nos: Nos, scq: Scq) -> ProviderStep
+        ensures { λ r. ⌜ r ≡ onSc self nos scq ⌝ }
+    {
+        let action = scq.action;
+        match action {
+            Scq::SELECT_FILE => self.reply(Reply::FileReady),
+            Scq::REQUEST_FILE => self.reply(Reply::SectionReady(Nos { value: 1 })),
+            Scq::SELECT_SECTION => self.reply(Reply::SectionReady(nos)),
+            Scq::REQUEST_SECTION => self.reply(Reply::Section(nos)),
+            _ => self.ended().step(ProviderAnswer::Deactivated { scq }),
+        }
+    }
+
+    // After a positive acknowledgement of section `nos`: the next section, or the file's close.
+    fn after(self, nos: Nos) -> Reply
+        ensures { λ r. ⌜ r ≡ after self nos ⌝ }
+    {
+        let name = nos.value;
+        if (name as usize) < sections::section_count(self.length) {
+            return Reply::SectionReady(Nos { value: name + 1 });
+        }
+        Reply::FileClose(nos)
+    }
+
+    // An acknowledgement, by the action of AFQ (7.2.6.32).
+    fn on_ack(self, nos: Nos, afq: Afq) -> ProviderStep
+        ensures { λ r. ⌜ r ≡ onAck self nos afq ⌝ }
+    {
+        let action = afq.action;
+        match action {
+            Afq::SECTION_POSITIVE => self.reply(self.after(nos)),
+            Afq::SECTION_NEGATIVE => self.reply(Reply::Section(nos)),
+            Afq::FILE_POSITIVE => self.ended().step(ProviderAnswer::Complete),
+            _ => self.ended().step(ProviderAnswer::FileRejected { afq }),
+        }
+    }
+
+    // Whether a request is for this object address and file.
+    fn is_ours(self, frame: Frame) -> bool
+        ensures { λ r. ⌜ r ≡ isOurs self frame ⌝ }
+    {
+        let nof = self.nof;
+        if frame.ioa() == self.ioa {
+            return names_file(answer::nof_of(frame), nof);
+        }
+        false
+    }
+
+    // A request for this file; the query of a log sends nothing.
+    fn on_ours(self, frame: Frame) -> ProviderStep
+        ensures { λ r. ⌜ r ≡ onOurs self frame ⌝ }
+    {
+        match frame {
+            Frame::Sc { nos, scq, .. } => self.on_sc(nos, scq),
+            Frame::Ack { nos, afq, .. } => self.on_ack(nos, afq),
+            Frame::FileReady { .. } => self.reply(Reply::Nothing),
+            Frame::SectionReady { .. } => self.reply(Reply::Nothing),
+            Frame::LastSection { .. } => self.reply(Reply::Nothing),
+            Frame::Segment { .. } => self.reply(Reply::Nothing),
+            Frame::Directory { .. } => self.reply(Reply::Nothing),
+            Frame::QueryLog { .. } => self.reply(Reply::Nothing),
+        }
+    }
+
+    fn on_request(self, frame: Frame) -> ProviderStep
+        ensures { λ r. ⌜ r ≡ onRequest self frame ⌝ }
+    {
+        if self.is_ours(frame) {
+            return self.on_ours(frame);
+        }
+        self.counted().reply(Reply::Nothing)
+    }
+
+    // By what admission makes of the frame.
+    fn on_reaction(self, reaction: Reaction) -> ProviderStep
+        ensures { λ r. ⌜ r ≡ provideAdmitted self reaction ⌝ }
+    {
+        match reaction {
+            Reaction::Requested { frame } => self.on_request(frame),
+            Reaction::Answered { .. } => self.reply(Reply::Nothing),
+            Reaction::Refused { cause, mirror } => {
+                self.ended().step(ProviderAnswer::Refused { cause, mirror })
+            }
+            Reaction::Discard(_) => self.reply(Reply::Nothing),
+            Reaction::Other => self.reply(Reply::Nothing),
+            Reaction::Err(error) => self.step(ProviderAnswer::Err(error)),
+        }
+    }
+
+    // One received frame: 26 where record and file disagree, nothing on a record that is done, then by
+    // admission. A refusal leaves the record as it came in.
+    pub fn on_asdu(
+        self,
+        file: &[u8],
+        header: Header,
+        unknown: UnknownField,
+        received: Received,
+        beside: &[u8],
+    ) -> ProviderStep
+        ensures { λ r. ⌜ r ≡ provide self (now (file .entry)) header unknown received (now (beside .entry)) ⌝ }
+    {
+        let procedure = self.procedure;
+        if !self.agrees(file) {
+            return self.step(ProviderAnswer::Err(FtError::RecordMismatch));
+        }
+        if self.done {
+            return self.reply(Reply::Nothing);
+        }
+        self.on_reaction(procedure.on_asdu(header, unknown, received, beside))
+    }
+}
