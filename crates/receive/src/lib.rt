@@ -1,5 +1,7 @@
 // The receiving side of a file transfer (IEC 60870-5-101, 7.4.11): what a Receiver asks for, checks
 // and keeps. The store is lent to each call: the accepted octets first, then the section under way.
+pub mod store; // the octets that are kept, and where a segment is written
+
 use asdu::error::FtError;
 use asdu::file::Chs;
 use asdu::file::Frq;
