@@ -1,5 +1,10 @@
 // The receiving side of a file transfer (IEC 60870-5-101, 7.4.11): what a Receiver asks for, checks
 // and keeps. The store is lent to each call: the accepted octets first, then the section under way.
+mod answered; // what a received frame does
+mod record; // the record: its making, what it holds and what it sends
+mod step; // what a step makes of the record
+mod store; // the octets that are kept, and where a segment is written
+
 use asdu::error::FtError;
 use asdu::file::Chs;
 use asdu::file::Frq;

@@ -1,0 +1,37 @@
+use borrow.Author.Needs.{needs}
+use Rattle.receive.proofs.Receiver.on_answered.Statement.{statement}
+use Rattle.receive.proofs.Receiver.on_answered.Tie as tie
+
+pub on-answered-spec : {M : Type 1} → statement M
+on-answered-spec =
+    tie.close
+    (tie.spec
+    (λ c. search needs)
+    (λ c κs. search needs)
+    (λ c. let e = c .before .before .frame .given .1 in (simp e (c .on-file-ready .ensures), simp e))
+    (λ c. search needs)
+    (λ c κs. search needs)
+    (λ c. let e = c .before .before .frame2 .given .1 in (simp e (c .on-section-ready .ensures), simp e))
+    (λ c. search needs)
+    (λ c κs. search needs)
+    (λ c. let e = c .before .enum-told .given .1 in (simp e (c .runs .ensures), simp e))
+    (λ c. search needs)
+    (λ c κs. search needs)
+    (λ c. search needs)
+    (λ c. let e = c .before .before .before .frame3 .given .1 in (simp e (c .on-close .ensures), simp e))
+    (λ c. search needs)
+    (λ c κs. search needs)
+    (λ c. let e = c .before .enum-told2 .given .1 in (simp e (c .runs2 .ensures), simp e))
+    (λ c. search needs)
+    (λ c κs. search needs)
+    (λ c. search needs)
+    (λ c.
+    let s = c .before .before in
+    let e = s .before .before .enum-told3 .given .1 in
+    (simp e (s .on-segment .ensures .0), simp e (s .on-segment .ensures .1)))
+    (λ c. search needs)
+    (λ c κs. search needs)
+    (λ c. let e = c .before .enum-told4 .given .1 in (simp e (c .runs3 .ensures), simp e))
+    (λ c. search needs)
+    (λ c κs. search needs)
+    (λ c. let e = c .before .enum-told5 .given .1 in (simp e (c .runs4 .ensures), simp e)))

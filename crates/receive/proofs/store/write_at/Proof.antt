@@ -1,0 +1,47 @@
+-- The store's end part, from the place on, is lent to the copying function and comes back.
+use Prim.Native.Nat.{_+_, _≤_}
+use mathlib.Core.Path.{sym}
+use native.Mathlib.Omega.{arith}
+use borrow.Author.Needs.{needs}
+use borrow.Author.Tests.{leb-true}
+use denote.Ref.{now}
+use lib.ListN.{length, length-take, length-drop}
+use Rattle.laws.proofs.Decide.{whens, yes, nay}
+use Rattle.receive.proofs.Parts.{written-part}
+use Rattle.receive.proofs.store.write_at.Statement.{statement}
+use Rattle.receive.proofs.store.write_at.Tie as tie
+
+sub-copy-front : tie.Need-sub-copy-front
+sub-copy-front c =
+    let a = c .before .before .before .before .args in
+    let h : a .place + length (a .octets .now) ≤ length (a .store .now) = leb-true _ _ (yes (c .before .is-held .ensures) (c .if1 .taken)) in
+    omega arith
+
+copy-front-requires : tie.Need-copy-front-requires
+copy-front-requires c κs =
+    let b = c .before .before in
+    let a = b .before .before .before .args in
+    let h : a .place + length (a .octets .now) ≤ length (a .store .now) = leb-true _ _ (yes (b .is-held .ensures) (c .before .if1 .taken)) in
+    simp (length-take, length-drop) (omega arith)
+
+returns : tie.Need-returns
+returns c =
+    let b = c .before .before in
+    let i = b .before .before .before in
+    let a = i .before .before .before .args in
+    let fits = yes (i .is-held .ensures) (b .before .before .if1 .taken) in
+    let h : a .place + length (a .octets .now) ≤ length (a .store .now) = leb-true _ _ fits in
+    (sym fits, simp whens (written-part (a .store .now) (a .place) (omega arith) (a .octets .now) (b .copy-front .last .0) (b .copy-front .ensures)))
+
+pub write-at-spec : {M : Type 1} → statement M
+write-at-spec =
+    tie.close
+    (tie.spec
+    (λ c κs. search needs)
+    sub-copy-front
+    (λ c. sub-copy-front c)
+    (λ c. search needs)
+    copy-front-requires
+    (λ c. search needs)
+    returns
+    (λ c. (sym (nay (c .before .is-held .ensures) (c .if1 .left)), simp whens)))

@@ -1,0 +1,212 @@
+// What a Receiver makes of each frame that answers it (IEC 60870-5-101, 7.4.11).
+use crate::Receiver;
+use crate::ReceiverAnswer;
+use crate::ReceiverStep;
+use crate::store;
+use asdu::error::FtError;
+use asdu::file::Afq;
+use asdu::file::Chs;
+use asdu::file::Frq;
+use asdu::file::Lof;
+use asdu::file::Lsq;
+use asdu::file::Nos;
+use asdu::file::Scq;
+use asdu::file::Srq;
+use asdu::header::Header;
+use asdu::header::UnknownField;
+use frame::Frame;
+use ft::admit::Reaction;
+use ft::admit::Received;
+ghost use mathlib.Core.Path.{_≡_};
+ghost use mathlib.Core.List.{List};
+ghost use Prim.Native.Nat.{ℕ, _+_, _≤_, _<_, _^_};
+ghost use lib.Dec.{eqb};
+ghost use lib.ListN.{length};
+ghost use Rattle.laws.specs.When.{_or_};
+ghost use Rattle.ft.specs.Checksum.{checksum};
+ghost use Rattle.receive.specs.Record.{keptOctets, stagedOctets, stepped};
+ghost use Rattle.receive.specs.Answers.{onFileReady, onSectionReady, onSectionClose, closing, onFileClose, onClose, onSegment, onAnswered, receiveAdmitted, receive};
+
+// Whether the frame closes a section (7.2.6.31).
+fn closes_section(lsq: Lsq) -> bool
+    ensures { λ r. ⌜ r ≡ (eqb (lsq .value) 3 or eqb (lsq .value) 4) ⌝ }
+{
+    if lsq.value == Lsq::SECTION_WITHOUT_DEACTIVATION {
+        return true;
+    }
+    lsq.value == Lsq::SECTION_WITH_DEACTIVATION
+}
+
+// Whether the frame closes the file.
+fn closes_file(lsq: Lsq) -> bool
+    ensures { λ r. ⌜ r ≡ (eqb (lsq .value) 1 or eqb (lsq .value) 2) ⌝ }
+{
+    if lsq.value == Lsq::FILE_WITHOUT_DEACTIVATION {
+        return true;
+    }
+    lsq.value == Lsq::FILE_WITH_DEACTIVATION
+}
+
+impl Receiver {
+    // The file is ready and is called, or it is not.
+    fn on_file_ready(self, lof: Lof, frq: Frq) -> ReceiverStep
+        ensures { λ r. ⌜ r ≡ onFileReady self lof frq ⌝ }
+    {
+        if frq.negative_confirm {
+            return self.ends(ReceiverAnswer::FileNotReady { frq });
+        }
+        let next = self.stating(lof.value);
+        next.asks(self.request(Scq::REQUEST_FILE, Nos { value: 0 }))
+    }
+
+    // A section is ready and is called, or it is not. One under way is dropped.
+    fn on_section_ready(self, nos: Nos, srq: Srq) -> ReceiverStep
+        ensures { λ r. ⌜ r ≡ onSectionReady self nos srq ⌝ }
+    {
+        if srq.not_ready {
+            return self.ends(ReceiverAnswer::SectionNotReady { nos, srq });
+        }
+        let mut next = self;
+        next.staged = 0;
+        next.asks(self.request(Scq::REQUEST_SECTION, nos))
+    }
+
+    // A section's close: where the sum of the section under way is the stated one it is accepted,
+    // else it is dropped and asked for again.
+    fn close_section(self, sum: Chs, nos: Nos, chs: Chs) -> ReceiverStep
+        requires { ⌜ self .kept + self .staged < 2 ^ 64 ⌝ }
+        ensures { λ r. ⌜ ((store : List ℕ) → sum .value ≡ checksum (stagedOctets self store) → r ≡ onSectionClose self store nos chs) ⌝ }
+    {
+        let mut next = self;
+        next.staged = 0;
+        if sum.value == chs.value {
+            next.kept = self.kept + self.staged;
+            return next.asks(self.acknowledge(Afq::SECTION_POSITIVE, nos));
+        }
+        next.asks(self.acknowledge(Afq::SECTION_NEGATIVE, nos))
+    }
+
+    // The file's close: a section under way is dropped, the acknowledgement goes out and the transfer
+    // is over.
+    fn closes(self, ack: Frame, answer: ReceiverAnswer) -> ReceiverStep
+        ensures { λ r. ⌜ r ≡ stepped (closing self ack) answer ⌝ }
+    {
+        let mut next = self;
+        next.staged = 0;
+        next.done = true;
+        ReceiverStep {
+            receiver: next.sending(ack),
+            answer,
+        }
+    }
+
+    // The file's close: complete where the sum of the accepted octets is the stated one.
+    fn close_file(self, sum: Chs, nos: Nos, chs: Chs) -> ReceiverStep
+        ensures { λ r. ⌜ ((store : List ℕ) → sum .value ≡ checksum (keptOctets self store) → r ≡ onFileClose self store nos chs) ⌝ }
+    {
+        if sum.value == chs.value {
+            let ack = self.acknowledge(Afq::FILE_POSITIVE, nos);
+            let length = self.kept;
+            return self.closes(ack, ReceiverAnswer::Complete { ack, length });
+        }
+        let ack = self.acknowledge(Afq::FILE_NEGATIVE, nos);
+        self.closes(
+            ack,
+            ReceiverAnswer::FileChecksum {
+                ack,
+                expected: sum,
+                got: chs,
+            },
+        )
+    }
+
+    // The last segment of a section or the last section of the file, by LSQ; one of another LSQ ends
+    // the transfer.
+    fn on_close(self, store: &[u8], nos: Nos, lsq: Lsq, chs: Chs) -> ReceiverStep
+        requires { ⌜ self .kept + self .staged ≤ length (now store) ⌝ }
+        ensures { λ r. ⌜ r ≡ onClose self (now (store .entry)) nos lsq chs ⌝ }
+    {
+        let kept = self.kept;
+        let held = kept + self.staged;
+        if closes_section(lsq) {
+            return self.close_section(store::sum_between(store, kept, held), nos, chs);
+        }
+        if closes_file(lsq) {
+            return self.close_file(store::sum_between(store, 0, kept), nos, chs);
+        }
+        self.ends(ReceiverAnswer::UnknownLsq(lsq))
+    }
+
+    // A segment is written after what is held: 24 where the store cannot take it.
+    fn on_segment(self, store: &mut [u8], payload: &[u8]) -> ReceiverStep
+        requires { ⌜ self .kept + self .staged ≤ length (now store) ⌝ }
+        ensures { λ r. ⌜ (r ≡ onSegment self (now (store .entry)) (now (payload .entry)) .step) × (now (store .exit) ≡ onSegment self (now (store .entry)) (now (payload .entry)) .store) ⌝ }
+    {
+        let place = self.kept + self.staged;
+        if store::write_at(store, place, payload) {
+            let mut next = self;
+            next.staged = self.staged + payload.len();
+            return next.runs();
+        }
+        self.refuses(FtError::StoreFull)
+    }
+
+    // A frame that answers the one sent, of a record that is not done and agrees with its store.
+    fn on_answered(self, store: &mut [u8], payload: &[u8], frame: Frame) -> ReceiverStep
+        requires { ⌜ self .kept + self .staged ≤ length (now store) ⌝ }
+        ensures { λ r. ⌜ (r ≡ onAnswered self (now (store .entry)) (now (payload .entry)) frame .step) × (now (store .exit) ≡ onAnswered self (now (store .entry)) (now (payload .entry)) frame .store) ⌝ }
+    {
+        match frame {
+            Frame::FileReady { lof, frq, .. } => return self.on_file_ready(lof, frq),
+            Frame::SectionReady { nos, srq, .. } => return self.on_section_ready(nos, srq),
+            Frame::Sc { .. } => return self.runs(),
+            Frame::LastSection { nos, lsq, chs, .. } => return self.on_close(store, nos, lsq, chs),
+            Frame::Ack { .. } => return self.runs(),
+            Frame::Segment { .. } => return self.on_segment(store, payload),
+            Frame::Directory { .. } => return self.runs(),
+            Frame::QueryLog { .. } => return self.runs(),
+        }
+    }
+
+    // By what admission makes of the frame.
+    fn on_admitted(self, store: &mut [u8], payload: &[u8], reaction: Reaction) -> ReceiverStep
+        requires { ⌜ self .kept + self .staged ≤ length (now store) ⌝ }
+        ensures { λ r. ⌜ (r ≡ receiveAdmitted self (now (store .entry)) (now (payload .entry)) reaction .step) × (now (store .exit) ≡ receiveAdmitted self (now (store .entry)) (now (payload .entry)) reaction .store) ⌝ }
+    {
+        match reaction {
+            Reaction::Requested { .. } => return self.runs(),
+            Reaction::Answered { frame } => return self.on_answered(store, payload, frame),
+            Reaction::Refused { cause, mirror } => {
+                return self.ends(ReceiverAnswer::Refused { cause, mirror });
+            }
+            Reaction::Discard(_) => return self.runs(),
+            Reaction::Other => return self.runs(),
+            Reaction::Err(error) => return self.refuses(error),
+        }
+    }
+
+    // One frame handed to the Receiver, with what stands beside it. 26 is tested first; then a done
+    // record is answered with nothing; then come admission, 23 and what the frame says; 24 is tested
+    // last. A refusal leaves record and store as they are.
+    pub fn on_asdu(
+        self,
+        store: &mut [u8],
+        header: Header,
+        unknown: UnknownField,
+        received: Received,
+        beside: &[u8],
+    ) -> ReceiverStep
+        ensures { λ r. ⌜ (r ≡ receive self (now (store .entry)) header unknown received (now (beside .entry)) .step) × (now (store .exit) ≡ receive self (now (store .entry)) header unknown received (now (beside .entry)) .store) ⌝ }
+    {
+        let procedure = self.procedure;
+        if self.agrees(store) {
+            if self.done {
+                return self.runs();
+            }
+            let sent = self.awaited();
+            let reaction = procedure.on_answer(header, unknown, received, beside, sent);
+            return self.on_admitted(store, beside, reaction);
+        }
+        self.refuses(FtError::RecordMismatch)
+    }
+}
