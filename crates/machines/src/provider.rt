@@ -136,7 +136,13 @@ fn called(name: &[u8], action: u8, nos: u8, cause: u8) {
     };
     let file = [1u8; 4097];
     let h = header(122, cause);
-    let step = record(0, false).on_asdu(&file, h, UnknownField::Nothing, Received::Frame(frame), &[]);
+    let step = record(0, false).on_asdu(
+        &file,
+        h,
+        UnknownField::Nothing,
+        Received::Frame(frame),
+        &[],
+    );
     answered(name, step, &file);
 }
 
@@ -166,7 +172,13 @@ fn acknowledged(name: &[u8], action: u8, nos: u8, done: bool) {
     };
     let file = [1u8; 4097];
     let h = header(124, 13);
-    let step = record(0, done).on_asdu(&file, h, UnknownField::Nothing, Received::Frame(frame), &[]);
+    let step = record(0, done).on_asdu(
+        &file,
+        h,
+        UnknownField::Nothing,
+        Received::Frame(frame),
+        &[],
+    );
     answered(name, step, &file);
 }
 
@@ -243,7 +255,13 @@ fn log(name: &[u8], nof: u16) {
     };
     let file = [1u8; 4097];
     let h = header(127, 13);
-    let step = record(0, false).on_asdu(&file, h, UnknownField::Nothing, Received::Frame(frame), &[]);
+    let step = record(0, false).on_asdu(
+        &file,
+        h,
+        UnknownField::Nothing,
+        Received::Frame(frame),
+        &[],
+    );
     print::line(name, step.provider.unmatched as u64);
 }
 
@@ -251,7 +269,12 @@ pub fn others() {
     counted(b"this file, unmatched", 0, 100, 7);
     counted(b"another object, unmatched", 0, 101, 7);
     counted(b"another file, unmatched", 5, 100, 8);
-    counted(b"another file at the largest count, unmatched", 4294967295, 100, 8);
+    counted(
+        b"another file at the largest count, unmatched",
+        4294967295,
+        100,
+        8,
+    );
     log(b"log of this file, unmatched", 7);
     log(b"log of another file, unmatched", 8);
 }
@@ -261,7 +284,12 @@ pub fn others() {
 fn indexed(name: &[u8], nos: u8, index: usize) {
     let file = [1u8; 4097];
     print::text(name);
-    at(record(0, false), &file, Reply::Section(Nos { value: nos }), index);
+    at(
+        record(0, false),
+        &file,
+        Reply::Section(Nos { value: nos }),
+        index,
+    );
 }
 
 pub fn indexes() {

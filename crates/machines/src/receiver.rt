@@ -135,7 +135,13 @@ fn offered(name: &[u8], action: u8, ioa: u32, negative_confirm: bool) {
     };
     let mut store = [200u8, 100, 3, 4, 5, 6, 7, 8];
     let r = record(action, 2, 2, false);
-    let step = r.on_asdu(&mut store, header(120), UnknownField::Nothing, Received::Frame(frame), &[]);
+    let step = r.on_asdu(
+        &mut store,
+        header(120),
+        UnknownField::Nothing,
+        Received::Frame(frame),
+        &[],
+    );
     answered(name, step);
 }
 
@@ -152,7 +158,13 @@ fn readied(name: &[u8], action: u8, not_ready: bool) {
     };
     let mut store = [200u8, 100, 3, 4, 5, 6, 7, 8];
     let r = record(action, 2, 2, false);
-    let step = r.on_asdu(&mut store, header(121), UnknownField::Nothing, Received::Frame(frame), &[]);
+    let step = r.on_asdu(
+        &mut store,
+        header(121),
+        UnknownField::Nothing,
+        Received::Frame(frame),
+        &[],
+    );
     answered(name, step);
 }
 
@@ -160,10 +172,28 @@ pub fn offers() {
     offered(b"offered before a start", 0, 100, false);
     offered(b"file ready after a select", Scq::SELECT_FILE, 100, false);
     offered(b"negative file ready", Scq::SELECT_FILE, 100, true);
-    offered(b"file ready of another object", Scq::SELECT_FILE, 101, false);
-    offered(b"file ready after a call of the file", Scq::REQUEST_FILE, 100, false);
-    readied(b"section ready after a call of the file", Scq::REQUEST_FILE, false);
-    readied(b"section not ready after its call", Scq::REQUEST_SECTION, true);
+    offered(
+        b"file ready of another object",
+        Scq::SELECT_FILE,
+        101,
+        false,
+    );
+    offered(
+        b"file ready after a call of the file",
+        Scq::REQUEST_FILE,
+        100,
+        false,
+    );
+    readied(
+        b"section ready after a call of the file",
+        Scq::REQUEST_FILE,
+        false,
+    );
+    readied(
+        b"section not ready after its call",
+        Scq::REQUEST_SECTION,
+        true,
+    );
 }
 
 // ---- Closes
@@ -178,7 +208,13 @@ fn closed(name: &[u8], lsq: u8, chs: u8, done: bool) {
     };
     let mut store = [200u8, 100, 3, 4, 5, 6, 7, 8];
     let r = record(Scq::REQUEST_SECTION, 2, 2, done);
-    let step = r.on_asdu(&mut store, header(123), UnknownField::Nothing, Received::Frame(frame), &[]);
+    let step = r.on_asdu(
+        &mut store,
+        header(123),
+        UnknownField::Nothing,
+        Received::Frame(frame),
+        &[],
+    );
     answered(name, step);
 }
 
@@ -209,7 +245,13 @@ fn put(name: &[u8], staged: usize, payload: &[u8]) {
     };
     let mut store = [200u8, 100, 3, 4, 5, 6, 7, 8];
     let r = record(Scq::REQUEST_SECTION, 2, staged, false);
-    let step = r.on_asdu(&mut store, header(125), UnknownField::Nothing, Received::Frame(frame), payload);
+    let step = r.on_asdu(
+        &mut store,
+        header(125),
+        UnknownField::Nothing,
+        Received::Frame(frame),
+        payload,
+    );
     answered(name, step);
     octets(&store);
 }
@@ -223,7 +265,6 @@ fn octets(store: &[u8; 8]) {
     print::number(store[4] as u64);
     print::text(b" ");
     print::number(store[5] as u64);
-    print::text(b" ");
     print::line(b"", store[7] as u64);
 }
 
@@ -242,7 +283,13 @@ fn sent_back(name: &[u8], cause: u8) {
     h.cause = Cause { value: cause };
     let mut store = [200u8, 100, 3, 4, 5, 6, 7, 8];
     let r = record(Scq::SELECT_FILE, 2, 2, false);
-    let step = r.on_asdu(&mut store, h, UnknownField::Nothing, Received::Undecodable, &[]);
+    let step = r.on_asdu(
+        &mut store,
+        h,
+        UnknownField::Nothing,
+        Received::Undecodable,
+        &[],
+    );
     answered(name, step);
 }
 
@@ -255,12 +302,22 @@ pub fn ends() {
 fn misfit(name: &[u8], kept: usize, staged: usize) {
     let mut store = [200u8, 100, 3, 4, 5, 6, 7, 8];
     let r = record(Scq::SELECT_FILE, kept, staged, true);
-    let step = r.on_asdu(&mut store, header(119), UnknownField::Nothing, Received::Undecodable, &[]);
+    let step = r.on_asdu(
+        &mut store,
+        header(119),
+        UnknownField::Nothing,
+        Received::Undecodable,
+        &[],
+    );
     answered(name, step);
 }
 
 pub fn records() {
     misfit(b"done, holding eight", 6, 2);
     misfit(b"done, holding nine", 6, 3);
-    misfit(b"done, holding more than can be counted", 18446744073709551615, 18446744073709551615);
+    misfit(
+        b"done, holding more than can be counted",
+        18446744073709551615,
+        18446744073709551615,
+    );
 }

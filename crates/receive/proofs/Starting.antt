@@ -1,10 +1,11 @@
 -- The start of a record and store that agree: 21, 22, or the select. What else `build` refuses cannot come.
-use Prim.Native.Nat.{ℕ, _+_}
+use Prim.Native.Nat.{ℕ, _+_, _≤_}
 use mathlib.Core.Path.{_≡_, refl}
 use mathlib.Core.Bool.{Bool, true, false}
 use mathlib.Core.List.{List}
 use lib.Dec.{leb}
 use lib.ListN.{length}
+use borrow.Author.Tests.{leb-true}
 use Rattle.laws.specs.When.{when, unless}
 use Rattle.asdu.specs.Sizes.{sizesRight, maxIoa}
 use Rattle.asdu.specs.Elements.{scqInRange}
@@ -32,6 +33,9 @@ agrees r store e =
     let s = both _ _ e in
     let o = both _ _ (s .1) in
     record { settings = s .0; object = o .0; held = o .1 }
+
+pub agrees-held : (r : Receiver) (store : List ℕ) → storeAgrees r store ≡ true → r .kept + r .staged ≤ length store
+agrees-held r store e = leb-true (r .kept + r .staged) (length store) (agrees r store e .held)
 
 started-when : (r : Receiver) (u s : Bool) (a : Asdu)
     → startedWith r (unless u (A.Err E.FunctionNotUsed) (unless s (A.Err E.NotSelectedDirection) (A.Ok a)))

@@ -1,7 +1,7 @@
 use Rattle.laws.proofs.Decide.{whens, yes, nay}
 use borrow.Author.Needs.{needs}
 use Rattle.receive.specs.Answers.{receive}
-use Rattle.receive.proofs.Agrees.{agrees-held}
+use Rattle.receive.proofs.Starting.{agrees-held}
 use Rattle.receive.proofs.Receiver.on_asdu.Statement.{statement}
 use Rattle.receive.proofs.Receiver.on_asdu.Tie as tie
 
