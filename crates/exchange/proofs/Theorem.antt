@@ -1,27 +1,23 @@
 -- Demand 3, entire: the two-party result.
-use Prim.Native.Nat.{ℕ, zero, suc, _+_, _*_, _≤_, _<_}
+use Prim.Native.Nat.{ℕ, zero, suc, _+_, _*_, _<_}
 use mathlib.Core.Path.{_≡_, refl, subst}
 use mathlib.Core.Bool.{true, false}
 use mathlib.Core.List.{[], _∷_}
 use native.Mathlib.Omega.{arith}
 use native.Mathlib.Nat.{zero-mul}
-use lib.Dec.{leb}
 use lib.ListN.{length}
-use borrow.Author.Tests.{le-leb, leb-true, eq-eqb}
-use Rattle.laws.specs.When.{when, _and_}
+use borrow.Author.Tests.{le-leb, eq-eqb}
+use Rattle.laws.specs.When.{when}
 use Rattle.lists.specs.Parts.{parts}
-use Rattle.asdu.specs.Sizes.{within, sizesRight, headerLen, elementRoom, segmentLimit}
-use Rattle.asdu.proofs.Range.{both}
 use Rattle.asdu.specs.declared.file.Nos.{Nos}
 use Rattle.asdu.specs.declared.file.Lof.{Lof}
-use Rattle.asdu.specs.declared.sizes.AddressSizes.{AddressSizes}
 use Rattle.frame.specs.declared.Frame.the-variants as F
 use Rattle.frame.specs.Answers.{answersTo, namesAgree, calledSection, scAnswered, fileAnswered}
-use Rattle.ft.specs.Procedure.{settled, addressRight}
 use Rattle.provide.specs.Sections.{sections}
 use Rattle.provide.specs.Replies.{fileReady}
 use Rattle.provide.specs.declared.Reply.the-variants.{Nothing, FileReady, SectionReady}
 use Rattle.provide.specs.declared.ProviderAnswer.the-variants as PA
+use Rattle.provide.proofs.Building.{wide}
 use Rattle.provide.proofs.Facts.{selects-file, requests-file}
 use Rattle.provide.proofs.Sections.{some-section}
 use Rattle.receive.specs.Answers.{onFileReady}
@@ -35,24 +31,9 @@ use Rattle.exchange.proofs.Steps.{Ends, Ex, sc, ask, asked-sc, takes}
 use Rattle.exchange.proofs.Sendings.{limit}
 use Rattle.exchange.proofs.Sections.{Awaits, size, count, number, Pass, sections-pass}
 
-within-most : (low high x : ℕ) → within low high x ≡ true → x ≤ high
-unfolding within
-within-most low high x e = leb-true x high (both (leb low x) (leb x high) e .1)
-
--- a segment holds something at every width
-limit-wide : (z : AddressSizes) → sizesRight z ≡ true → 0 < segmentLimit z
-unfolding sizesRight segmentLimit elementRoom headerLen
-limit-wide z e =
-    let (c, rest) = both (within 1 2 (z .«cause_octets»)) (within 1 2 (z .«common_address_octets») and within 1 3 (z .«information_object_address_octets»)) e in
-    let (a, o) = both (within 1 2 (z .«common_address_octets»)) (within 1 3 (z .«information_object_address_octets»)) rest in
-    omega (arith, within-most 1 2 (z .«cause_octets») c, within-most 1 2 (z .«common_address_octets») a, within-most 1 3 (z .«information_object_address_octets») o)
-
 module _ (m : Transfer) where
-  pub wide : 0 < limit m
-  unfolding settled
-  wide =
-      limit-wide (m .provider-station .sizes)
-      (both (sizesRight (m .provider-station .sizes)) (addressRight (m .provider-station .sizes) (m .provider-station .ca) (m .provider-station .org)) (settings m) .0)
+  fits : 0 < limit m
+  fits = wide (m .provider-station) (settings m)
 
   abbrev none : Nos
   none = record { value = 0 }
@@ -78,7 +59,7 @@ module _ (m : Transfer) where
       (λ t′. Ex m (ask m (sc m 2 none) ∷ []) (sc m 2 none) (Known (length (m .file))) [] [] (m .store) (inOrder (m .radio)) t′ (PA.Running FileReady) (RA.Send (sc m 2 none)))
       refl refl (simp (le-leb (length (m .file)) 0xFFFFFF (short m))) (offers _) refl
       (λ t₂ d₂. asked-sc m (sc m 2 none) (Known (length (m .file))) [] [] (m .store) (inOrder (m .radio)) t₂ _ _ none 2 (SectionReady (number m 0)) refl (requests-file (P m) none 0)
-      (λ t₃ d₃. sections-pass m wide c 0 (m .radio) [] (m .file) (m .store) t₃ _ _ (sc m 2 none)
+      (λ t₃ d₃. sections-pass m fits c 0 (m .radio) [] (m .file) (m .store) t₃ _ _ (sc m 2 none)
       (omega arith) (rw zero-mul) refl (m .room) refl awaits-first hit (omega arith) (omega arith))))
 
   begins : (c : ℕ) → count m ≡ c
