@@ -20,7 +20,7 @@ use Rattle.frame.specs.declared.Frame.the-variants as F
 use Rattle.frame.specs.Frames.{typeOf, causeOf, receiverSide, ioaOf, isFileType}
 use Rattle.frame.specs.Ranges.{valuesInRange}
 use Rattle.frame.specs.Answers.{answersTo}
-use Rattle.ft.specs.Directions.{otherRole, usesFunction}
+use Rattle.ft.specs.Directions.{otherRole}
 use Rattle.ft.specs.Procedure.{settled}
 use Rattle.ft.specs.Admission.{serves, frameAgrees, admitFrame, onAsdu, answered, onAnswer}
 use Rattle.ft.specs.declared.direction.Role.{Role}
@@ -31,6 +31,7 @@ use Rattle.ft.specs.declared.admit.Reaction.the-variants.{Requested, Answered}
 use Rattle.provide.specs.Record.{freshProvider, fileAgrees}
 use Rattle.provide.specs.Requests.{onSc, onAck, isOurs, onRequest, provide}
 use Rattle.provide.specs.declared.Provider.{Provider}
+use Rattle.provide.proofs.Building.{uses}
 use Rattle.provide.proofs.Facts.{request-heard, ours-heard}
 use Rattle.provide.proofs.Making as PM
 use Rattle.receive.specs.Record.{storeAgrees, awaited, select, stepped, started}
@@ -86,19 +87,6 @@ swap p Controlling true = refl
 swap p Controlling false = refl
 swap p Controlled true = refl
 swap p Controlled false = refl
-
-either : (a b : Bool) → b ≡ true → when a true b ≡ true
-unfolding when
-either true b e = refl
-either false b e = e
-
--- a station that uses a direction uses the function
-uses : (p : FileTransferProcedure) (r : Role) (b : Bool) → serves p r b ≡ true → usesFunction (p .selection) ≡ true
-unfolding serves usesFunction when
-uses p Controlling true e = rw e
-uses p Controlled false e = rw e
-uses p Controlling false e = either (p .selection .monitor) (p .selection .control) e
-uses p Controlled true e = either (p .selection .monitor) (p .selection .control) e
 
 module _ (m : Transfer) where
   provider-facts : PM.Made (m .provider-station) (m .object) (m .name) (length (m .file)) (m .provider)

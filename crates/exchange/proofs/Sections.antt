@@ -25,7 +25,7 @@ use Rattle.provide.specs.Requests.{replying, onAck}
 use Rattle.provide.specs.declared.Reply.the-variants.{SectionReady, Section, FileClose}
 use Rattle.provide.specs.declared.ProviderAnswer.{ProviderAnswer}
 use Rattle.provide.proofs.Facts.{requests-section, next-section, no-section, file-accepted}
-use Rattle.provide.proofs.Sections.{enough, section-from}
+use Rattle.provide.proofs.SectionLaws.{enough, section-from}
 use Rattle.receive.proofs.Facts as RF
 use Rattle.receive.specs.Record.{withState}
 use Rattle.receive.specs.Answers.{onSectionReady, onClose}

@@ -1,5 +1,5 @@
 -- Demand 3, entire: the two-party result.
-use Prim.Native.Nat.{ℕ, zero, suc, _+_, _*_, _≤_, _<_}
+use Prim.Native.Nat.{ℕ, zero, suc, _+_, _*_, _<_}
 use mathlib.Core.Path.{_≡_, refl, subst}
 use mathlib.Core.Bool.{true, false}
 use mathlib.Core.List.{[], _∷_}
@@ -9,20 +9,26 @@ use lib.ListN.{length}
 use borrow.Author.Tests.{le-leb, eq-eqb}
 use Rattle.laws.specs.When.{when}
 use Rattle.lists.specs.Parts.{parts}
+<<<<<<< HEAD
 use Rattle.asdu.specs.Sizes.{sizesRight}
 use Rattle.asdu.proofs.Range.{both}
+=======
+>>>>>>> theorem
 use Rattle.asdu.specs.declared.file.Nos.{Nos}
 use Rattle.asdu.specs.declared.file.Lof.{Lof}
 use Rattle.frame.specs.declared.Frame.the-variants as F
 use Rattle.frame.specs.Answers.{answersTo, namesAgree, calledSection, scAnswered, fileAnswered}
-use Rattle.ft.specs.Procedure.{settled, addressRight}
 use Rattle.provide.specs.Sections.{sections}
 use Rattle.provide.specs.Replies.{fileReady}
 use Rattle.provide.specs.declared.Reply.the-variants.{Nothing, FileReady, SectionReady}
 use Rattle.provide.specs.declared.ProviderAnswer.the-variants as PA
+<<<<<<< HEAD
 use Rattle.provide.proofs.Cuts.{limit-least}
+=======
+use Rattle.provide.proofs.Building.{wide}
+>>>>>>> theorem
 use Rattle.provide.proofs.Facts.{selects-file, requests-file}
-use Rattle.provide.proofs.Sections.{some-section}
+use Rattle.provide.proofs.SectionLaws.{some-section}
 use Rattle.receive.specs.Answers.{onFileReady}
 use Rattle.receive.specs.declared.Sent.the-variants as S
 use Rattle.receive.specs.declared.Length.the-variants.{Unknown, Known}
@@ -35,11 +41,16 @@ use Rattle.exchange.proofs.Sendings.{limit}
 use Rattle.exchange.proofs.Sections.{Awaits, size, count, number, Pass, sections-pass}
 
 module _ (m : Transfer) where
+<<<<<<< HEAD
   pub wide : 0 < limit m
   unfolding settled
   wide =
       limit-least (m .provider-station .sizes)
       (both (sizesRight (m .provider-station .sizes)) (addressRight (m .provider-station .sizes) (m .provider-station .ca) (m .provider-station .org)) (settings m) .0)
+=======
+  fits : 0 < limit m
+  fits = wide (m .provider-station) (settings m)
+>>>>>>> theorem
 
   abbrev none : Nos
   none = record { value = 0 }
@@ -65,7 +76,7 @@ module _ (m : Transfer) where
       (λ t′. Ex m (ask m (sc m 2 none) ∷ []) (sc m 2 none) (Known (length (m .file))) [] [] (m .store) (inOrder (m .radio)) t′ (PA.Running FileReady) (RA.Send (sc m 2 none)))
       refl refl (simp (le-leb (length (m .file)) 0xFFFFFF (short m))) (offers _) refl
       (λ t₂ d₂. asked-sc m (sc m 2 none) (Known (length (m .file))) [] [] (m .store) (inOrder (m .radio)) t₂ _ _ none 2 (SectionReady (number m 0)) refl (requests-file (P m) none 0)
-      (λ t₃ d₃. sections-pass m wide c 0 (m .radio) [] (m .file) (m .store) t₃ _ _ (sc m 2 none)
+      (λ t₃ d₃. sections-pass m fits c 0 (m .radio) [] (m .file) (m .store) t₃ _ _ (sc m 2 none)
       (omega arith) (rw zero-mul) refl (m .room) refl awaits-first hit (omega arith) (omega arith))))
 
   begins : (c : ℕ) → count m ≡ c

@@ -22,7 +22,7 @@ use Rattle.provide.specs.Requests.{stepped, replying, onSc, after, onAck
 use Rattle.provide.specs.declared.Provider.{Provider}
 use Rattle.provide.specs.declared.Reply.the-variants.{Nothing, FileReady, SectionReady, Section, FileClose}
 use Rattle.provide.specs.declared.ProviderAnswer.the-variants.{Complete}
-use Rattle.provide.proofs.Sections.{enough}
+use Rattle.provide.proofs.SectionLaws.{enough}
 
 module _ (p : Provider) where
   -- a request that is admitted is heard

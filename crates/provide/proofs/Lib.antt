@@ -1,8 +1,9 @@
 pub mod Cuts
-pub mod Sections
+pub mod SectionLaws
 pub mod Facts
 pub mod Making
 pub mod Announcing
+pub mod Building
 pub mod Refusals
 pub mod Indexed
 pub mod Table

@@ -2,7 +2,7 @@ use Rattle.laws.proofs.Decide.{whens}
 use borrow.Author.Needs.{needs}
 use borrow.Author.Tests.{lt-ltb, le-ltb}
 use Rattle.provide.specs.Requests.{after}
-use Rattle.provide.proofs.Sections.{few-sections}
+use Rattle.provide.proofs.SectionLaws.{few-sections}
 use Rattle.provide.proofs.Provider.after.Statement.{statement}
 use Rattle.provide.proofs.Provider.after.Tie as tie
 

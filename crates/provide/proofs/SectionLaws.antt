@@ -1,12 +1,12 @@
 -- A file's sections: at least one, at most 255, and together the file.
 use Prim.Native.Nat.{ℕ, suc, _-_, _*_, _≤_, _<_, max}
 use mathlib.Core.Path.{_≡_, _∙_}
-use mathlib.Core.Bool.{false}
+use mathlib.Core.Bool.{Bool, true, false}
 use mathlib.Core.List.{List, []}
 use native.Mathlib.Omega.{arith}
 use native.Mathlib.Nat.{le-trans, mul-le-mul-right, lt-of-mul-lt-mul-right}
 use lib.Dec.{eqb, eqb·suc-zero}
-use lib.ListN.{length, take, drop, getD}
+use lib.ListN.{length, take, drop, getD, length-take, length-drop}
 use lib.Seq.{take-all}
 use borrow.Author.Tests.{ne-eqb}
 use Rattle.laws.specs.When.{when}
@@ -58,3 +58,12 @@ unfolding sectionOctets segmentOctets segmentStart when
 segment-part size limit file nos i h =
     let named : eqb nos 0 ≡ false = ne-eqb nos 0 (λ e. omega arith) in
     simp named (part-of-part ((nos - 1) * size) size (i * limit) limit file)
+
+-- no section is longer than its file
+pub section-within : (size : ℕ) (file : List ℕ) (nos : ℕ) → length (sectionOctets size file nos) ≤ length file
+unfolding sectionOctets when
+section-within size file nos = by-test (eqb nos 0)
+  where
+    by-test : (b : Bool) → length (when b [] (take size (drop ((nos - 1) * size) file))) ≤ length file
+    by-test true = omega arith
+    by-test false = simp (length-take, length-drop) (omega arith)
