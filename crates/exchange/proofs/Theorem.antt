@@ -9,11 +9,6 @@ use lib.ListN.{length}
 use borrow.Author.Tests.{le-leb, eq-eqb}
 use Rattle.laws.specs.When.{when}
 use Rattle.lists.specs.Parts.{parts}
-<<<<<<< HEAD
-use Rattle.asdu.specs.Sizes.{sizesRight}
-use Rattle.asdu.proofs.Range.{both}
-=======
->>>>>>> theorem
 use Rattle.asdu.specs.declared.file.Nos.{Nos}
 use Rattle.asdu.specs.declared.file.Lof.{Lof}
 use Rattle.frame.specs.declared.Frame.the-variants as F
@@ -22,11 +17,7 @@ use Rattle.provide.specs.Sections.{sections}
 use Rattle.provide.specs.Replies.{fileReady}
 use Rattle.provide.specs.declared.Reply.the-variants.{Nothing, FileReady, SectionReady}
 use Rattle.provide.specs.declared.ProviderAnswer.the-variants as PA
-<<<<<<< HEAD
-use Rattle.provide.proofs.Cuts.{limit-least}
-=======
 use Rattle.provide.proofs.Building.{wide}
->>>>>>> theorem
 use Rattle.provide.proofs.Facts.{selects-file, requests-file}
 use Rattle.provide.proofs.SectionLaws.{some-section}
 use Rattle.receive.specs.Answers.{onFileReady}
@@ -41,16 +32,8 @@ use Rattle.exchange.proofs.Sendings.{limit}
 use Rattle.exchange.proofs.Sections.{Awaits, size, count, number, Pass, sections-pass}
 
 module _ (m : Transfer) where
-<<<<<<< HEAD
-  pub wide : 0 < limit m
-  unfolding settled
-  wide =
-      limit-least (m .provider-station .sizes)
-      (both (sizesRight (m .provider-station .sizes)) (addressRight (m .provider-station .sizes) (m .provider-station .ca) (m .provider-station .org)) (settings m) .0)
-=======
   fits : 0 < limit m
   fits = wide (m .provider-station) (settings m)
->>>>>>> theorem
 
   abbrev none : Nos
   none = record { value = 0 }

@@ -1,29 +1,28 @@
 -- The bounds of a section's length and count, a part as it is named by two numbers, and what the agreement of record and file gives.
-use mathlib.Core.Path.{_≡_, refl, ap}
+use mathlib.Core.Path.{_≡_, ap}
 use mathlib.Core.Bool.{Bool, true, false}
 use mathlib.Core.List.{List, [], _∷_}
 use Prim.Native.Nat.{ℕ, zero, suc, _+_, _-_, _*_, _≤_, _<_, min}
-use native.Mathlib.Nat.{zero-min, suc-min-suc, add-sub-cancel-left, le-max-left, le-max-right, max-le, min-le-left, min-le-right, mul-le-mul, le-trans, lt-of-le-of-lt, lt-of-mul-lt-mul-right}
+use native.Mathlib.Nat.{zero-min, suc-min-suc, add-sub-cancel-left, le-max-left, min-le-left, min-le-right, mul-le-mul, le-trans, lt-of-le-of-lt, lt-of-mul-lt-mul-right}
 use native.Mathlib.Omega.{arith}
-use lib.Dec.{eqb, leb, lit<, lit≤}
+use lib.Dec.{eqb, lit<}
 use lib.ListN.{length, take, drop, length-take, length-drop}
 use lib.Seq.{take-nil, drop-nil}
 use mir.Val.{Fits}
 use mir.Syntax.{w64}
-use borrow.Author.Tests.{leb-true}
 use Rattle.laws.specs.When.{when, _and_}
 use Rattle.laws.proofs.Decide.{whens}
 use Rattle.lists.specs.Parts.{divCeil}
-use Rattle.lists.proofs.Parts.{ceil-enough, ceil-least}
-use Rattle.asdu.proofs.Range.{both}
-use Rattle.asdu.specs.Sizes.{within, sizesRight, headerLen, elementRoom, segmentLimit}
+use Rattle.lists.proofs.Parts.{ceil-least}
+use Rattle.asdu.specs.Sizes.{segmentLimit}
 use Rattle.asdu.specs.declared.file.Nos.{Nos}
 use Rattle.asdu.specs.declared.sizes.AddressSizes.{AddressSizes}
-use Rattle.ft.specs.Procedure.{settled}
-use Rattle.provide.specs.Sections.{sectionLength, sectionCount, sectionOctets, segmentOctets}
+use Rattle.provide.specs.Sections.{sectionLength, sectionOctets, segmentOctets}
 use Rattle.provide.specs.Record.{fileAgrees}
 use Rattle.provide.specs.Replies.{octetsOf, limitOf, segmentCount}
 use Rattle.provide.specs.declared.Provider.{Provider}
+use Rattle.provide.proofs.Making.{agrees}
+use Rattle.provide.proofs.Building.{wide}
 
 pub product-fits : (k n : ℕ) → k ≤ 0xFFFFFFFF → n ≤ 0xFFFFFFFF → Fits w64 (k * n)
 product-fits k n p q = record { fits = lt-of-le-of-lt (mul-le-mul p q) (lit< tt) }
@@ -85,20 +84,6 @@ segments-most p file nos h =
 
 -- ---- of a record that agrees with the lent file
 
--- both of two tests that hold together
-within-most : (low high x : ℕ) → within low high x ≡ true → x ≤ high
-unfolding within
-within-most low high x h = leb-true x high (both (leb low x) (leb x high) h .1)
-
-pub limit-least : (z : AddressSizes) → sizesRight z ≡ true → 0 < segmentLimit z
-unfolding sizesRight segmentLimit elementRoom headerLen
-limit-least z h =
-    let a = within-most 1 2 (z .«cause_octets») (both _ _ h .0) in
-    let b = within-most 1 2 (z .«common_address_octets») (both _ _ (both _ _ h .1) .0) in
-    let d = within-most 1 3 (z .«information_object_address_octets») (both _ _ (both _ _ h .1) .1) in
-    omega arith
-
 -- a segment of its station can hold something
 pub agreed-limit : (p : Provider) (file : List ℕ) → fileAgrees p file ≡ true → 0 < limitOf p
-unfolding fileAgrees settled
-agreed-limit p file h = limit-least (p .procedure .sizes) (both _ _ (both _ _ h .0) .0)
+agreed-limit p file h = wide (p .procedure) (agrees p file h .settings)
