@@ -193,6 +193,22 @@ impl Provider {
         FrameResult::Err(FtError::IndexOutOfRange)
     }
 
+    fn section_ready_at(self, file: &[u8], nos: Nos, index: usize) -> FrameResult
+        ensures { λ r. ⌜ r ≡ only (sectionReady self (now (file .entry)) nos) index ⌝ }
+    {
+        only(self.section_ready(file, nos), index)
+    }
+
+    // The last section of the file, with the sum of all its octets.
+    fn file_close_at(self, file: &[u8], nos: Nos, index: usize) -> FrameResult
+        ensures { λ r. ⌜ r ≡ only (closeFrame self nos 1 (now (file .entry))) index ⌝ }
+    {
+        if index == 0 {
+            return FrameResult::Ok(self.close_frame(nos, Lsq::FILE_WITHOUT_DEACTIVATION, file));
+        }
+        FrameResult::Err(FtError::IndexOutOfRange)
+    }
+
     fn frame_at(self, file: &[u8], reply: Reply, index: usize) -> FrameResult
         requires { ⌜ 0 < limitOf self ⌝ }
         ensures { λ r. ⌜ r ≡ frameAt self (now (file .entry)) reply index ⌝ }
@@ -200,12 +216,9 @@ impl Provider {
         match reply {
             Reply::Nothing => FrameResult::Err(FtError::IndexOutOfRange),
             Reply::FileReady => only(self.file_ready(), index),
-            Reply::SectionReady(nos) => only(self.section_ready(file, nos), index),
+            Reply::SectionReady(nos) => self.section_ready_at(file, nos, index),
             Reply::Section(nos) => self.section_frame(file, nos, index),
-            Reply::FileClose(nos) => only(
-                self.close_frame(nos, Lsq::FILE_WITHOUT_DEACTIVATION, file),
-                index,
-            ),
+            Reply::FileClose(nos) => self.file_close_at(file, nos, index),
         }
     }
 

@@ -10,6 +10,7 @@ use asdu::file::Afq;
 use asdu::file::Nof;
 use asdu::file::Nos;
 use asdu::file::Scq;
+use asdu::header::Cause;
 use asdu::header::Header;
 use asdu::header::UnknownField;
 use frame::Frame;
@@ -20,7 +21,10 @@ use ft::admit::Received;
 ghost use mathlib.Core.Path.{_≡_};
 ghost use Rattle.frame.specs.Answers.{nofAgree};
 ghost use Rattle.frame.specs.declared.answer.SomeNof.the-variants as N;
+ghost use Rattle.provide.specs.Record.{ended};
 ghost use Rattle.provide.specs.Requests.{stepped, replying, onSc, after, onAck, isOurs, onOurs, onRequest, provideAdmitted, provide};
+ghost use Rattle.provide.specs.declared.Reply.the-variants.{Nothing};
+ghost use Rattle.provide.specs.declared.ProviderAnswer.the-variants.{Refused, Err};
 
 // Whether a frame that has a name of file names this one.
 fn names_file(name: SomeNof, nof: Nof) -> bool
@@ -33,16 +37,6 @@ fn names_file(name: SomeNof, nof: Nof) -> bool
 }
 
 impl Provider {
-    // The record with an answer.
-    fn step(self, answer: ProviderAnswer) -> ProviderStep
-        ensures { λ r. ⌜ r ≡ stepped self answer ⌝ }
-    {
-        ProviderStep {
-            provider: self,
-            answer,
-        }
-    }
-
     // The transfer goes on, with this to send.
     fn reply(self, reply: Reply) -> ProviderStep
         ensures { λ r. ⌜ r ≡ replying self reply ⌝ }
@@ -50,6 +44,36 @@ impl Provider {
         ProviderStep {
             provider: self,
             answer: ProviderAnswer::Running(reply),
+        }
+    }
+
+    fn nothing(self) -> ProviderStep
+        ensures { λ r. ⌜ r ≡ replying self Nothing ⌝ }
+    {
+        self.reply(Reply::Nothing)
+    }
+
+    // The transfer is over, with this answer.
+    fn end(self, answer: ProviderAnswer) -> ProviderStep
+        ensures { λ r. ⌜ r ≡ stepped (ended self) answer ⌝ }
+    {
+        let provider = self.ended();
+        ProviderStep { provider, answer }
+    }
+
+    fn refused(self, cause: Cause, mirror: bool) -> ProviderStep
+        ensures { λ r. ⌜ r ≡ stepped (ended self) (Refused cause mirror) ⌝ }
+    {
+        self.end(ProviderAnswer::Refused { cause, mirror })
+    }
+
+    // A numbered refusal keeps the record.
+    fn failed(self, error: FtError) -> ProviderStep
+        ensures { λ r. ⌜ r ≡ stepped self (Err error) ⌝ }
+    {
+        ProviderStep {
+            provider: self,
+            answer: ProviderAnswer::Err(error),
         }
     }
 
@@ -63,7 +87,7 @@ impl Provider {
             Scq::REQUEST_FILE => self.reply(Reply::SectionReady(Nos { value: 1 })),
             Scq::SELECT_SECTION => self.reply(Reply::SectionReady(nos)),
             Scq::REQUEST_SECTION => self.reply(Reply::Section(nos)),
-            _ => self.ended().step(ProviderAnswer::Deactivated { scq }),
+            _ => self.end(ProviderAnswer::Deactivated { scq }),
         }
     }
 
@@ -86,8 +110,8 @@ impl Provider {
         match action {
             Afq::SECTION_POSITIVE => self.reply(self.after(nos)),
             Afq::SECTION_NEGATIVE => self.reply(Reply::Section(nos)),
-            Afq::FILE_POSITIVE => self.ended().step(ProviderAnswer::Complete),
-            _ => self.ended().step(ProviderAnswer::FileRejected { afq }),
+            Afq::FILE_POSITIVE => self.end(ProviderAnswer::Complete),
+            _ => self.end(ProviderAnswer::FileRejected { afq }),
         }
     }
 
@@ -109,12 +133,12 @@ impl Provider {
         match frame {
             Frame::Sc { nos, scq, .. } => self.on_sc(nos, scq),
             Frame::Ack { nos, afq, .. } => self.on_ack(nos, afq),
-            Frame::FileReady { .. } => self.reply(Reply::Nothing),
-            Frame::SectionReady { .. } => self.reply(Reply::Nothing),
-            Frame::LastSection { .. } => self.reply(Reply::Nothing),
-            Frame::Segment { .. } => self.reply(Reply::Nothing),
-            Frame::Directory { .. } => self.reply(Reply::Nothing),
-            Frame::QueryLog { .. } => self.reply(Reply::Nothing),
+            Frame::FileReady { .. } => self.nothing(),
+            Frame::SectionReady { .. } => self.nothing(),
+            Frame::LastSection { .. } => self.nothing(),
+            Frame::Segment { .. } => self.nothing(),
+            Frame::Directory { .. } => self.nothing(),
+            Frame::QueryLog { .. } => self.nothing(),
         }
     }
 
@@ -124,7 +148,7 @@ impl Provider {
         if self.is_ours(frame) {
             return self.on_ours(frame);
         }
-        self.counted().reply(Reply::Nothing)
+        self.counted().nothing()
     }
 
     // By what admission makes of the frame.
@@ -133,13 +157,11 @@ impl Provider {
     {
         match reaction {
             Reaction::Requested { frame } => self.on_request(frame),
-            Reaction::Answered { .. } => self.reply(Reply::Nothing),
-            Reaction::Refused { cause, mirror } => {
-                self.ended().step(ProviderAnswer::Refused { cause, mirror })
-            }
-            Reaction::Discard(_) => self.reply(Reply::Nothing),
-            Reaction::Other => self.reply(Reply::Nothing),
-            Reaction::Err(error) => self.step(ProviderAnswer::Err(error)),
+            Reaction::Answered { .. } => self.nothing(),
+            Reaction::Refused { cause, mirror } => self.refused(cause, mirror),
+            Reaction::Discard(_) => self.nothing(),
+            Reaction::Other => self.nothing(),
+            Reaction::Err(error) => self.failed(error),
         }
     }
 
@@ -157,10 +179,10 @@ impl Provider {
     {
         let procedure = self.procedure;
         if !self.agrees(file) {
-            return self.step(ProviderAnswer::Err(FtError::RecordMismatch));
+            return self.failed(FtError::RecordMismatch);
         }
         if self.done {
-            return self.reply(Reply::Nothing);
+            return self.nothing();
         }
         self.on_reaction(procedure.on_asdu(header, unknown, received, beside))
     }

@@ -13,28 +13,12 @@ frame-at-spec =
     (λ c κs. search needs)
     (λ c. search needs)
     (λ c κs. search needs)
-    (λ c κs. search needs)
     (λ c. search needs)
     (λ c κs. search needs)
     (λ c. search needs)
-    (λ c κs. search needs)
     (λ c κs. search needs)
     (λ c. simp (whens, c .enum-told .given .1))
     (λ c. simp (whens, c .before .before .enum-told2 .given .1, ← (c .only .ensures), ← (c .before .file-ready .ensures)))
-    (λ c.
-    simp (
-      whens,
-      c .before .before .known-told .given .1,
-      c .before .before .before .reply .given .1,
-      ← (c .only2 .ensures),
-      ← (c .before .section-ready .ensures),
-    ))
+    (λ c. simp (whens, c .before .known-told .given .1, c .before .before .reply .given .1, ← (c .section-ready-at .ensures)))
     (λ c. simp (whens, c .before .known-told2 .given .1, c .before .before .reply2 .given .1, ← (c .section-frame .ensures)))
-    (λ c.
-    simp (
-      whens,
-      c .before .before .known-told3 .given .1,
-      c .before .before .before .reply3 .given .1,
-      ← (c .only3 .ensures),
-      ← (c .before .close-frame .ensures),
-    )))
+    (λ c. simp (whens, c .before .known-told3 .given .1, c .before .before .reply3 .given .1, ← (c .file-close-at .ensures))))

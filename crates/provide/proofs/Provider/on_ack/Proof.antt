@@ -15,17 +15,14 @@ on-ack-spec =
     (λ c κs. search needs)
     (λ c κs. search needs)
     (λ c κs. search needs)
-    (λ c κs. search needs)
-    (λ c κs. search needs)
     (λ c. simp (whens, c .before .before .match .keys1, ← (c .reply .ensures), ← (c .before .after .ensures)))
     (λ c. simp (whens, c .before .match .keys2, ← (c .reply2 .ensures)))
-    (λ c. simp (whens, c .before .before .match .keys3, ← (c .step .ensures), ← (c .before .ended .ensures)))
+    (λ c. simp (whens, c .before .match .keys3, ← (c .end .ensures)))
     (λ c.
-    simp (
-      whens,
-      ne-eqb _ _ (c .before .before .match .rest .0 .0 .1),
-      ne-eqb _ _ (c .before .before .match .rest .0 .1),
-      ne-eqb _ _ (c .before .before .match .rest .1),
-      ← (c .step2 .ensures),
-      ← (c .before .ended2 .ensures),
-    )))
+      simp (
+        whens,
+        ne-eqb _ _ (c .before .match .rest .0 .0 .1),
+        ne-eqb _ _ (c .before .match .rest .0 .1),
+        ne-eqb _ _ (c .before .match .rest .1),
+        ← (c .end2 .ensures),
+      )))

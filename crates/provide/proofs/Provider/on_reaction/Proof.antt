@@ -13,7 +13,6 @@ on-reaction-spec =
     (λ c κs. search needs)
     (λ c. search needs)
     (λ c κs. search needs)
-    (λ c κs. search needs)
     (λ c. search needs)
     (λ c κs. search needs)
     (λ c. search needs)
@@ -21,15 +20,8 @@ on-reaction-spec =
     (λ c. search needs)
     (λ c κs. search needs)
     (λ c. simp (whens, c .before .known-told .given .1, c .before .before .reaction .given .1, ← (c .on-request .ensures)))
-    (λ c. simp (whens, c .before .enum-told .given .1, ← (c .reply .ensures)))
-    (λ c.
-    simp (
-      whens,
-      c .before .before .known-told2 .given .1,
-      c .before .before .before .reaction2 .given .1,
-      ← (c .step .ensures),
-      ← (c .before .ended .ensures),
-    ))
-    (λ c. simp (whens, c .before .enum-told2 .given .1, ← (c .reply2 .ensures)))
-    (λ c. simp (whens, c .before .enum-told3 .given .1, ← (c .reply3 .ensures)))
-    (λ c. simp (whens, c .before .known-told3 .given .1, c .before .before .reaction3 .given .1, ← (c .step2 .ensures))))
+    (λ c. simp (whens, c .before .enum-told .given .1, ← (c .nothing .ensures)))
+    (λ c. simp (whens, c .before .known-told2 .given .1, c .before .before .reaction2 .given .1, ← (c .refused .ensures)))
+    (λ c. simp (whens, c .before .enum-told2 .given .1, ← (c .nothing2 .ensures)))
+    (λ c. simp (whens, c .before .enum-told3 .given .1, ← (c .nothing3 .ensures)))
+    (λ c. simp (whens, c .before .known-told3 .given .1, c .before .before .reaction3 .given .1, ← (c .failed .ensures))))

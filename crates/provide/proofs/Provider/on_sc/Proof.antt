@@ -15,18 +15,16 @@ on-sc-spec =
     (λ c κs. search needs)
     (λ c κs. search needs)
     (λ c κs. search needs)
-    (λ c κs. search needs)
     (λ c. simp (whens, c .before .match .keys1, ← (c .reply .ensures)))
     (λ c. simp (whens, c .before .match .keys2, ← (c .reply2 .ensures)))
     (λ c. simp (whens, c .before .match .keys3, ← (c .reply3 .ensures)))
     (λ c. simp (whens, c .before .match .keys4, ← (c .reply4 .ensures)))
     (λ c.
-    simp (
-      whens,
-      ne-eqb _ _ (c .before .before .match .rest .0 .0 .0 .1),
-      ne-eqb _ _ (c .before .before .match .rest .0 .0 .1),
-      ne-eqb _ _ (c .before .before .match .rest .0 .1),
-      ne-eqb _ _ (c .before .before .match .rest .1),
-      ← (c .step .ensures),
-      ← (c .before .ended .ensures),
-    )))
+      simp (
+        whens,
+        ne-eqb _ _ (c .before .match .rest .0 .0 .0 .1),
+        ne-eqb _ _ (c .before .match .rest .0 .0 .1),
+        ne-eqb _ _ (c .before .match .rest .0 .1),
+        ne-eqb _ _ (c .before .match .rest .1),
+        ← (c .end .ensures),
+      )))
