@@ -91,11 +91,11 @@ impl Receiver {
     fn closes(self, ack: Frame, answer: ReceiverAnswer) -> ReceiverStep
         ensures { λ r. ⌜ r ≡ stepped (closing self ack) answer ⌝ }
     {
-        let mut next = self;
-        next.staged = 0;
-        next.done = true;
+        let mut last = self;
+        last.staged = 0;
+        last.done = true;
         ReceiverStep {
-            receiver: next.sending(ack),
+            receiver: last.sending(ack),
             answer,
         }
     }

@@ -1,7 +1,6 @@
-use Rattle.laws.proofs.Decide.{whens}
 use borrow.Author.Needs.{needs}
 use Rattle.receive.proofs.Receiver.closes.Statement.{statement}
 use Rattle.receive.proofs.Receiver.closes.Tie as tie
 
 pub closes-spec : {M : Type 1} → statement M
-closes-spec = tie.close (tie.spec (λ c κs. search needs) (λ c. simp (whens, ← (c .sending .ensures))))
+closes-spec = tie.close (tie.spec (λ c κs. search needs) (λ c. simp (← (c .sending .ensures))))

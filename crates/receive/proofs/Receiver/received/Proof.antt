@@ -1,4 +1,3 @@
-use Rattle.laws.proofs.Decide.{whens}
 use borrow.Author.Needs.{needs}
 use Rattle.receive.specs.Record.{receivedOctets}
 use Rattle.receive.proofs.Receiver.received.Statement.{statement}
@@ -10,4 +9,4 @@ received-spec =
     tie.close
     (tie.spec
     (λ c κs. search needs)
-    (λ c. simp (whens, ← (c .saturating-sum .ensures))))
+    (λ c. simp (← (c .saturating-sum .ensures))))
