@@ -1,4 +1,3 @@
-use Rattle.laws.proofs.Decide.{whens}
 use borrow.Author.Needs.{needs}
 use Rattle.provide.proofs.Provider.count_of.Statement.{statement}
 use Rattle.provide.proofs.Provider.count_of.Tie as tie
@@ -13,8 +12,8 @@ count-of-spec =
     (λ c. search needs)
     (λ c κs. search needs)
     (λ c. search needs)
-    (λ c. simp (whens, c .enum-told .given .1))
-    (λ c. simp (whens, c .enum-told2 .given .1))
-    (λ c. simp (whens, c .enum-told3 .given .1))
-    (λ c. simp (whens, c .before .known-told .given .1, c .before .before .reply .given .1, ← (c .section-frames .ensures)))
-    (λ c. simp (whens, c .enum-told4 .given .1)))
+    (λ c. simp (c .enum-told .given .1))
+    (λ c. simp (c .enum-told2 .given .1))
+    (λ c. simp (c .enum-told3 .given .1))
+    (λ c. simp (c .before .before .reply .given .1, ← (c .section-frames .ensures)))
+    (λ c. simp (c .enum-told4 .given .1)))

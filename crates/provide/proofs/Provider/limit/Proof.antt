@@ -1,7 +1,6 @@
-use Rattle.laws.proofs.Decide.{whens}
 use borrow.Author.Needs.{needs}
 use Rattle.provide.proofs.Provider.limit.Statement.{statement}
 use Rattle.provide.proofs.Provider.limit.Tie as tie
 
 pub limit-spec : {M : Type 1} → statement M
-limit-spec = tie.close (tie.spec (λ c κs. search needs) (λ c. simp (whens, ← (c .max-segment .ensures))))
+limit-spec = tie.close (tie.spec (λ c κs. search needs) (λ c. simp (← (c .max-segment .ensures))))

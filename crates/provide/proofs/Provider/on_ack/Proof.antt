@@ -19,10 +19,10 @@ on-ack-spec =
     (λ c. simp (whens, c .before .match .keys2, ← (c .reply2 .ensures)))
     (λ c. simp (whens, c .before .match .keys3, ← (c .end .ensures)))
     (λ c.
-      simp (
-        whens,
-        ne-eqb _ _ (c .before .match .rest .0 .0 .1),
-        ne-eqb _ _ (c .before .match .rest .0 .1),
-        ne-eqb _ _ (c .before .match .rest .1),
-        ← (c .end2 .ensures),
-      )))
+    simp (
+      whens,
+      ne-eqb _ _ (c .before .match .rest .0 .0 .1),
+      ne-eqb _ _ (c .before .match .rest .0 .1),
+      ne-eqb _ _ (c .before .match .rest .1),
+      ← (c .end2 .ensures),
+    )))

@@ -14,19 +14,19 @@ on-asdu-spec =
     (λ c. simp (whens, nay-by-not (c .before .before .agrees .ensures) (c .before .if1 .taken), ← (c .failed .ensures)))
     (λ c κs. search needs)
     (λ c.
-      simp (
-        whens,
-        c .before .if2 .taken,
-        yes-by-not (c .before .before .before .agrees .ensures) (c .before .before .if1 .left),
-        ← (c .nothing .ensures),
-      ))
+    simp (
+      whens,
+      c .before .if2 .taken,
+      yes-by-not (c .before .before .before .agrees .ensures) (c .before .before .if1 .left),
+      ← (c .nothing .ensures),
+    ))
     (λ c κs. search needs)
     (λ c κs. search needs)
     (λ c.
-      simp (
-        whens,
-        c .before .before .if2 .left,
-        yes-by-not (c .before .before .before .before .agrees .ensures) (c .before .before .before .if1 .left),
-        ← (c .on-reaction .ensures),
-        ← (c .before .on-asdu .ensures),
-      )))
+    simp (
+      whens,
+      c .before .before .if2 .left,
+      yes-by-not (c .before .before .before .before .agrees .ensures) (c .before .before .before .if1 .left),
+      ← (c .on-reaction .ensures),
+      ← (c .before .on-asdu .ensures),
+    )))

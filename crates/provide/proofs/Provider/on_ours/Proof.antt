@@ -1,4 +1,3 @@
-use Rattle.laws.proofs.Decide.{whens}
 use borrow.Author.Needs.{needs}
 use Rattle.provide.proofs.Provider.on_ours.Statement.{statement}
 use Rattle.provide.proofs.Provider.on_ours.Tie as tie
@@ -23,11 +22,11 @@ on-ours-spec =
     (λ c κs. search needs)
     (λ c. search needs)
     (λ c κs. search needs)
-    (λ c. simp (whens, c .before .known-told .given .1, c .before .before .frame .given .1, ← (c .on-sc .ensures)))
-    (λ c. simp (whens, c .before .known-told2 .given .1, c .before .before .frame2 .given .1, ← (c .on-ack .ensures)))
-    (λ c. simp (whens, c .before .enum-told .given .1, ← (c .nothing .ensures)))
-    (λ c. simp (whens, c .before .enum-told2 .given .1, ← (c .nothing2 .ensures)))
-    (λ c. simp (whens, c .before .enum-told3 .given .1, ← (c .nothing3 .ensures)))
-    (λ c. simp (whens, c .before .enum-told4 .given .1, ← (c .nothing4 .ensures)))
-    (λ c. simp (whens, c .before .enum-told5 .given .1, ← (c .nothing5 .ensures)))
-    (λ c. simp (whens, c .before .enum-told6 .given .1, ← (c .nothing6 .ensures))))
+    (λ c. simp (c .before .before .frame .given .1, ← (c .on-sc .ensures)))
+    (λ c. simp (c .before .before .frame2 .given .1, ← (c .on-ack .ensures)))
+    (λ c. simp (c .before .enum-told .given .1, ← (c .nothing .ensures)))
+    (λ c. simp (c .before .enum-told2 .given .1, ← (c .nothing2 .ensures)))
+    (λ c. simp (c .before .enum-told3 .given .1, ← (c .nothing3 .ensures)))
+    (λ c. simp (c .before .enum-told4 .given .1, ← (c .nothing4 .ensures)))
+    (λ c. simp (c .before .enum-told5 .given .1, ← (c .nothing5 .ensures)))
+    (λ c. simp (c .before .enum-told6 .given .1, ← (c .nothing6 .ensures))))

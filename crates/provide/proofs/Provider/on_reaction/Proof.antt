@@ -1,4 +1,3 @@
-use Rattle.laws.proofs.Decide.{whens}
 use borrow.Author.Needs.{needs}
 use Rattle.provide.proofs.Provider.on_reaction.Statement.{statement}
 use Rattle.provide.proofs.Provider.on_reaction.Tie as tie
@@ -19,9 +18,9 @@ on-reaction-spec =
     (λ c κs. search needs)
     (λ c. search needs)
     (λ c κs. search needs)
-    (λ c. simp (whens, c .before .known-told .given .1, c .before .before .reaction .given .1, ← (c .on-request .ensures)))
-    (λ c. simp (whens, c .before .enum-told .given .1, ← (c .nothing .ensures)))
-    (λ c. simp (whens, c .before .known-told2 .given .1, c .before .before .reaction2 .given .1, ← (c .refused .ensures)))
-    (λ c. simp (whens, c .before .enum-told2 .given .1, ← (c .nothing2 .ensures)))
-    (λ c. simp (whens, c .before .enum-told3 .given .1, ← (c .nothing3 .ensures)))
-    (λ c. simp (whens, c .before .known-told3 .given .1, c .before .before .reaction3 .given .1, ← (c .failed .ensures))))
+    (λ c. simp (c .before .before .reaction .given .1, ← (c .on-request .ensures)))
+    (λ c. simp (c .before .enum-told .given .1, ← (c .nothing .ensures)))
+    (λ c. simp (c .before .before .reaction2 .given .1, ← (c .refused .ensures)))
+    (λ c. simp (c .before .enum-told2 .given .1, ← (c .nothing2 .ensures)))
+    (λ c. simp (c .before .enum-told3 .given .1, ← (c .nothing3 .ensures)))
+    (λ c. simp (c .before .before .reaction3 .given .1, ← (c .failed .ensures))))

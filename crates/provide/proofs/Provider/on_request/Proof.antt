@@ -15,9 +15,9 @@ on-request-spec =
     (λ c κs. search needs)
     (λ c κs. search needs)
     (λ c.
-      simp (
-        whens,
-        nay (c .before .before .before .is-ours .ensures) (c .before .before .if1 .left),
-        ← (c .nothing .ensures),
-        ← (c .before .counted .ensures),
-      )))
+    simp (
+      whens,
+      nay (c .before .before .before .is-ours .ensures) (c .before .before .if1 .left),
+      ← (c .nothing .ensures),
+      ← (c .before .counted .ensures),
+    )))

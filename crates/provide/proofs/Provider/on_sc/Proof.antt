@@ -20,11 +20,11 @@ on-sc-spec =
     (λ c. simp (whens, c .before .match .keys3, ← (c .reply3 .ensures)))
     (λ c. simp (whens, c .before .match .keys4, ← (c .reply4 .ensures)))
     (λ c.
-      simp (
-        whens,
-        ne-eqb _ _ (c .before .match .rest .0 .0 .0 .1),
-        ne-eqb _ _ (c .before .match .rest .0 .0 .1),
-        ne-eqb _ _ (c .before .match .rest .0 .1),
-        ne-eqb _ _ (c .before .match .rest .1),
-        ← (c .end .ensures),
-      )))
+    simp (
+      whens,
+      ne-eqb _ _ (c .before .match .rest .0 .0 .0 .1),
+      ne-eqb _ _ (c .before .match .rest .0 .0 .1),
+      ne-eqb _ _ (c .before .match .rest .0 .1),
+      ne-eqb _ _ (c .before .match .rest .1),
+      ← (c .end .ensures),
+    )))

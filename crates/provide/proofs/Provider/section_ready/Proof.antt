@@ -1,4 +1,3 @@
-use Rattle.laws.proofs.Decide.{whens}
 use borrow.Author.Needs.{needs}
 use mathlib.Core.Path.{ap}
 use denote.Ref.{now}
@@ -17,4 +16,4 @@ section-ready-spec =
     let most = section-most (a .self .«section_len») (now (a .file)) (a .nos .value) in
     let e = ap length (c .octets .ensures) in
     search needs)
-    (λ c. simp (whens, ← (c .octets .ensures))))
+    (λ c. simp (← (c .octets .ensures))))

@@ -1,4 +1,3 @@
-use Rattle.laws.proofs.Decide.{whens}
 use borrow.Author.Needs.{needs}
 use Rattle.provide.specs.Replies.{only}
 use Rattle.provide.proofs.Provider.section_ready_at.Statement.{statement}
@@ -11,4 +10,4 @@ section-ready-at-spec =
     (tie.spec
     (λ c κs. search needs)
     (λ c κs. search needs)
-    (λ c. simp (whens, ← (c .only .ensures), ← (c .before .section-ready .ensures))))
+    (λ c. simp (← (c .only .ensures), ← (c .before .section-ready .ensures))))

@@ -1,4 +1,3 @@
-use Rattle.laws.proofs.Decide.{whens}
 use borrow.Author.Needs.{needs}
 use native.Mathlib.Omega.{arith}
 use Rattle.provide.specs.Sections.{segmentOctets}
@@ -14,4 +13,4 @@ segment-spec =
     (λ c κs. search needs)
     (λ c κs. search needs)
     (λ c κs. let limit = limit-most (c .before .before .before .args .self .procedure .sizes) in (omega arith, search needs))
-    (λ c. simp (whens, ← (c .part .ensures), ← (c .before .limit .ensures), ← (c .before .before .octets .ensures))))
+    (λ c. simp (← (c .part .ensures), ← (c .before .limit .ensures), ← (c .before .before .octets .ensures))))

@@ -1,4 +1,3 @@
-use Rattle.laws.proofs.Decide.{whens}
 use borrow.Author.Needs.{needs}
 use Rattle.provide.specs.Replies.{segmentCount}
 use mathlib.Core.Path.{ap}
@@ -22,4 +21,4 @@ segment-count-spec =
     let e = ap length (c .before .octets .ensures) in
     let limit = limit-most (s .args .self .procedure .sizes) in
     (omega arith, omega arith))
-    (λ c. simp (whens, ← (c .div-ceil .ensures), ← (c .before .limit .ensures), ← (c .before .before .octets .ensures))))
+    (λ c. simp (← (c .div-ceil .ensures), ← (c .before .limit .ensures), ← (c .before .before .octets .ensures))))

@@ -1,4 +1,3 @@
-use Rattle.laws.proofs.Decide.{whens}
 use borrow.Author.Needs.{needs}
 use Rattle.provide.proofs.frames.frame_of.Statement.{statement}
 use Rattle.provide.proofs.frames.frame_of.Tie as tie
@@ -9,5 +8,5 @@ frame-of-spec =
     (tie.spec
     (λ c. search needs)
     (λ c. search needs)
-    (λ c. simp (whens, c .known-told .given .1, c .before .made .given .1))
-    (λ c. simp (whens, c .known-told2 .given .1, c .before .made2 .given .1)))
+    (λ c. simp (c .before .made .given .1))
+    (λ c. simp (c .before .made2 .given .1)))

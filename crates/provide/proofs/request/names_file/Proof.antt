@@ -1,4 +1,3 @@
-use Rattle.laws.proofs.Decide.{whens}
 use borrow.Author.Needs.{needs}
 use Rattle.provide.proofs.request.names_file.Statement.{statement}
 use Rattle.provide.proofs.request.names_file.Tie as tie
@@ -9,5 +8,5 @@ names-file-spec =
     (tie.spec
     (λ c. search needs)
     (λ c. search needs)
-    (λ c. simp (whens, c .before .before .known-told .given .1, c .before .before .before .name .given .1))
-    (λ c. simp (whens, c .enum-told .given .1)))
+    (λ c. simp (c .before .before .before .name .given .1))
+    (λ c. simp (c .enum-told .given .1)))
