@@ -14,7 +14,7 @@ use Rattle.laws.specs.When.{when, _and_}
 use Rattle.laws.proofs.Decide.{whens}
 use Rattle.lists.specs.Parts.{divCeil}
 use Rattle.lists.proofs.Parts.{ceil-least}
-use Rattle.asdu.specs.Sizes.{segmentLimit}
+use Rattle.asdu.specs.Sizes.{segmentLimit, elementRoom}
 use Rattle.asdu.specs.declared.file.Nos.{Nos}
 use Rattle.asdu.specs.declared.sizes.AddressSizes.{AddressSizes}
 use Rattle.provide.specs.Sections.{sectionLength, sectionOctets, segmentOctets}
