@@ -7,7 +7,7 @@ use crate::time::Cp56Time2a;
 ghost use mathlib.Core.Path.{_≡_};
 ghost use mathlib.Core.Bool.{true};
 ghost use Prim.Native.Nat.{_+_, _*_, _/_, _%_, _<_, _≤_};
-ghost use lib.ListN.{length};
+ghost use lib.ListN.{length, getD};
 ghost use lib.Seq.{sets};
 ghost use Rattle.asdu.specs.Time.{timeInRange};
 ghost use Rattle.asdu.specs.Entry.{entryInRange, flag, sofOctet, timeOctets, entryOctets, bitOf, sofOf, timeAt, entryOf, reservedClear, packAnswer, packInto, unpacked, allClear, pageRight};
@@ -145,18 +145,20 @@ fn write_entry(entry: DirectoryEntry, out: &mut [u8])
 
 // ---- Octets to entry
 
-// The number of two octets, the lower first.
-fn two_octets(low: u8, high: u8) -> u16
-    ensures { λ r. ⌜ r ≡ low + 256 * high ⌝ }
+// The number of the two octets at this place, the lower first.
+fn two_at(octets: &[u8], at: usize) -> u16
+    requires { ⌜ at + 2 ≤ length (now octets) ⌝ }
+    ensures { λ r. ⌜ r ≡ getD (now (octets .entry)) at 0 + 256 * getD (now (octets .entry)) (at + 1) 0 ⌝ }
 {
-    low as u16 + 256 * (high as u16)
+    octets[at] as u16 + 256 * (octets[at + 1] as u16)
 }
 
-// The number of three octets, the lowest first.
-fn three_octets(low: u8, middle: u8, high: u8) -> u32
-    ensures { λ r. ⌜ r ≡ low + 256 * middle + 65536 * high ⌝ }
+// The number of the three octets at this place, the lowest first.
+fn three_at(octets: &[u8], at: usize) -> u32
+    requires { ⌜ at + 3 ≤ length (now octets) ⌝ }
+    ensures { λ r. ⌜ r ≡ getD (now (octets .entry)) at 0 + 256 * getD (now (octets .entry)) (at + 1) 0 + 65536 * getD (now (octets .entry)) (at + 2) 0 ⌝ }
 {
-    low as u32 + 256 * (middle as u32) + 65536 * (high as u32)
+    two_at(octets, at) as u32 + 65536 * (octets[at + 2] as u32)
 }
 
 // Whether the bit of this weight is set.
@@ -188,7 +190,7 @@ fn time_of(octets: &[u8]) -> Cp56Time2a
     let hours = octets[9];
     let day = octets[10];
     Cp56Time2a {
-        milliseconds: two_octets(octets[6], octets[7]),
+        milliseconds: two_at(octets, 6),
         minutes: minutes % 64,
         substituted: has_bit(64, minutes),
         invalid: has_bit(128, minutes),
@@ -208,10 +210,10 @@ fn entry_of(octets: &[u8]) -> DirectoryEntry
 {
     DirectoryEntry {
         nof: Nof {
-            value: two_octets(octets[0], octets[1]),
+            value: two_at(octets, 0),
         },
         lof: Lof {
-            value: three_octets(octets[2], octets[3], octets[4]),
+            value: three_at(octets, 2),
         },
         sof: sof_of(octets[5]),
         time: time_of(octets),

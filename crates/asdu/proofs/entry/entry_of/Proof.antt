@@ -8,20 +8,9 @@ unfolding entryOf
 entry-of-spec =
     tie.close
     (tie.spec
-    (λ c. search needs)
-    (λ c. search needs)
     (λ c κs. search needs)
-    (λ c. search needs)
-    (λ c. search needs)
-    (λ c. search needs)
     (λ c κs. search needs)
     (λ c. search needs)
     (λ c κs. search needs)
     (λ c κs. search needs)
-    (λ c.
-    simp (
-      ← (c .time-of .ensures),
-      ← (c .before .sof-of .ensures),
-      ← (c .before .before .before .three-octets .ensures),
-      ← (c .before .before .before .before .before .before .before .two-octets .ensures),
-    )))
+    (λ c. simp (← (c .time-of .ensures), ← (c .before .sof-of .ensures), ← (c .before .before .before .three-at .ensures), ← (c .before .before .before .before .two-at .ensures))))

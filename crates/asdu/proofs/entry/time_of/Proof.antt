@@ -11,8 +11,6 @@ time-of-spec =
     (λ c. search needs)
     (λ c. search needs)
     (λ c. search needs)
-    (λ c. search needs)
-    (λ c. search needs)
     (λ c κs. search needs)
     (λ c κs. search needs)
     (λ c κs. search needs)
@@ -24,5 +22,5 @@ time-of-spec =
       ← (c .before .before .has-bit3 .ensures),
       ← (c .before .before .before .has-bit2 .ensures),
       ← (c .before .before .before .before .has-bit .ensures),
-      ← (c .before .before .before .before .before .two-octets .ensures),
+      ← (c .before .before .before .before .before .two-at .ensures),
     )))
