@@ -11,7 +11,9 @@ fn main() {
     provider::sections();
     provider::acknowledgements();
     provider::select_actions();
+    provider::more_select_actions();
     provider::acknowledge_actions();
+    provider::more_acknowledge_actions();
     provider::others();
     provider::indexes();
     provider::records();

@@ -120,6 +120,8 @@ pub fn makings() {
     made(b"file of 0", 2, 1, 100, &[]);
     made(b"file of 4096", 2, 1, 100, &[1; 4096]);
     made(b"file of 4097", 2, 1, 100, &[1; 4097]);
+    made(b"file of 1044480", 2, 1, 100, &[1; 1044480]);
+    made(b"file of 1044481", 2, 1, 100, &[1; 1044481]);
     made(b"widths, then addresses", 0, 0, 100, &[]);
     made(b"own common address 0", 2, 0, 100, &[]);
     made(b"object address 16777216", 2, 1, 16777216, &[]);
@@ -192,13 +194,22 @@ pub fn acknowledgements() {
     acknowledged(b"after the end", Afq::SECTION_NEGATIVE, 2, true);
 }
 
-// The qualifiers, 0 to 15 and one over.
+// The qualifiers that ask for nothing, to 15 and one over.
 pub fn select_actions() {
     called(b"scq 0", 0, 2, 5);
     called(b"scq 3", 3, 2, 13);
     called(b"scq 4", 4, 2, 13);
     called(b"scq 7", 7, 2, 13);
     called(b"scq 8", 8, 2, 13);
+    called(b"scq 9", 9, 2, 13);
+}
+
+pub fn more_select_actions() {
+    called(b"scq 10", 10, 2, 13);
+    called(b"scq 11", 11, 2, 13);
+    called(b"scq 12", 12, 2, 13);
+    called(b"scq 13", 13, 2, 13);
+    called(b"scq 14", 14, 2, 13);
     called(b"scq 15", 15, 2, 13);
     called(b"scq 16", 16, 2, 13);
 }
@@ -208,6 +219,18 @@ pub fn acknowledge_actions() {
     acknowledged(b"afq 1", 1, 2, false);
     acknowledged(b"afq 2", 2, 2, false);
     acknowledged(b"afq 5", 5, 2, false);
+    acknowledged(b"afq 6", 6, 2, false);
+    acknowledged(b"afq 7", 7, 2, false);
+    acknowledged(b"afq 8", 8, 2, false);
+}
+
+pub fn more_acknowledge_actions() {
+    acknowledged(b"afq 9", 9, 2, false);
+    acknowledged(b"afq 10", 10, 2, false);
+    acknowledged(b"afq 11", 11, 2, false);
+    acknowledged(b"afq 12", 12, 2, false);
+    acknowledged(b"afq 13", 13, 2, false);
+    acknowledged(b"afq 14", 14, 2, false);
     acknowledged(b"afq 15", 15, 2, false);
     acknowledged(b"afq 16", 16, 2, false);
 }
