@@ -129,6 +129,15 @@ pub fn makings() {
 
 // ---- Requests
 
+// A frame, handed to a Provider that is running or done.
+fn handed(name: &[u8], done: bool, cause: u8, frame: Frame) {
+    let file = [1u8; 4097];
+    let h = header(frame.type_id(), cause);
+    let p = record(0, done);
+    let step = p.on_asdu(&file, h, UnknownField::Nothing, Received::Frame(frame), &[]);
+    answered(name, step, &file);
+}
+
 fn called(name: &[u8], action: u8, nos: u8, cause: u8) {
     let frame = Frame::Sc {
         ioa: 100,
@@ -136,16 +145,7 @@ fn called(name: &[u8], action: u8, nos: u8, cause: u8) {
         nos: Nos { value: nos },
         scq: Scq { action, error: 0 },
     };
-    let file = [1u8; 4097];
-    let h = header(122, cause);
-    let step = record(0, false).on_asdu(
-        &file,
-        h,
-        UnknownField::Nothing,
-        Received::Frame(frame),
-        &[],
-    );
-    answered(name, step, &file);
+    handed(name, false, cause, frame);
 }
 
 pub fn requests() {
@@ -172,16 +172,7 @@ fn acknowledged(name: &[u8], action: u8, nos: u8, done: bool) {
         nos: Nos { value: nos },
         afq: Afq { action, error: 0 },
     };
-    let file = [1u8; 4097];
-    let h = header(124, 13);
-    let step = record(0, done).on_asdu(
-        &file,
-        h,
-        UnknownField::Nothing,
-        Received::Frame(frame),
-        &[],
-    );
-    answered(name, step, &file);
+    handed(name, done, 13, frame);
 }
 
 pub fn acknowledgements() {
@@ -237,6 +228,15 @@ pub fn more_acknowledge_actions() {
 
 // ---- Requests for others
 
+// How many requests for others there are after one more frame.
+fn unmatched_after(name: &[u8], unmatched: u32, frame: Frame) {
+    let file = [1u8; 4097];
+    let h = header(frame.type_id(), 13);
+    let p = record(unmatched, false);
+    let step = p.on_asdu(&file, h, UnknownField::Nothing, Received::Frame(frame), &[]);
+    print::line(name, step.provider.unmatched as u64);
+}
+
 fn counted(name: &[u8], unmatched: u32, ioa: u32, nof: u16) {
     let frame = Frame::Sc {
         ioa,
@@ -247,11 +247,7 @@ fn counted(name: &[u8], unmatched: u32, ioa: u32, nof: u16) {
             error: 0,
         },
     };
-    let file = [1u8; 4097];
-    let h = header(122, 13);
-    let p = record(unmatched, false);
-    let step = p.on_asdu(&file, h, UnknownField::Nothing, Received::Frame(frame), &[]);
-    print::line(name, step.provider.unmatched as u64);
+    unmatched_after(name, unmatched, frame);
 }
 
 fn zero_time() -> Cp56Time2a {
@@ -276,16 +272,7 @@ fn log(name: &[u8], nof: u16) {
         range_start: zero_time(),
         range_stop: zero_time(),
     };
-    let file = [1u8; 4097];
-    let h = header(127, 13);
-    let step = record(0, false).on_asdu(
-        &file,
-        h,
-        UnknownField::Nothing,
-        Received::Frame(frame),
-        &[],
-    );
-    print::line(name, step.provider.unmatched as u64);
+    unmatched_after(name, 0, frame);
 }
 
 pub fn others() {

@@ -61,11 +61,11 @@ fn record(action: u8, kept: usize, staged: usize, done: bool) -> Receiver {
     }
 }
 
-fn header(type_id: u8) -> Header {
+fn header(type_id: u8, cause: u8, negative: bool) -> Header {
     Header {
         type_id,
-        cause: Cause { value: 13 },
-        negative: false,
+        cause: Cause { value: cause },
+        negative,
         originator: 0,
         common_address: 1,
     }
@@ -121,6 +121,21 @@ pub fn starts() {
     started(b"start on settings of no making", false, false, 0, false);
 }
 
+// A frame, handed to a Receiver that waits for the answer to a request, or is done.
+fn handed(name: &[u8], action: u8, done: bool, frame: Frame) {
+    let mut store = [200u8, 100, 3, 4, 5, 6, 7, 8];
+    let h = header(frame.type_id(), 13, false);
+    let r = record(action, 2, 2, done);
+    let step = r.on_asdu(
+        &mut store,
+        h,
+        UnknownField::Nothing,
+        Received::Frame(frame),
+        &[],
+    );
+    answered(name, step);
+}
+
 // ---- Ready frames
 
 fn offered(name: &[u8], action: u8, ioa: u32, negative_confirm: bool) {
@@ -133,16 +148,7 @@ fn offered(name: &[u8], action: u8, ioa: u32, negative_confirm: bool) {
             negative_confirm,
         },
     };
-    let mut store = [200u8, 100, 3, 4, 5, 6, 7, 8];
-    let r = record(action, 2, 2, false);
-    let step = r.on_asdu(
-        &mut store,
-        header(120),
-        UnknownField::Nothing,
-        Received::Frame(frame),
-        &[],
-    );
-    answered(name, step);
+    handed(name, action, false, frame);
 }
 
 fn readied(name: &[u8], action: u8, not_ready: bool) {
@@ -156,16 +162,7 @@ fn readied(name: &[u8], action: u8, not_ready: bool) {
             not_ready,
         },
     };
-    let mut store = [200u8, 100, 3, 4, 5, 6, 7, 8];
-    let r = record(action, 2, 2, false);
-    let step = r.on_asdu(
-        &mut store,
-        header(121),
-        UnknownField::Nothing,
-        Received::Frame(frame),
-        &[],
-    );
-    answered(name, step);
+    handed(name, action, false, frame);
 }
 
 pub fn offers() {
@@ -206,16 +203,7 @@ fn closed(name: &[u8], lsq: u8, chs: u8, done: bool) {
         lsq: Lsq { value: lsq },
         chs: Chs { value: chs },
     };
-    let mut store = [200u8, 100, 3, 4, 5, 6, 7, 8];
-    let r = record(Scq::REQUEST_SECTION, 2, 2, done);
-    let step = r.on_asdu(
-        &mut store,
-        header(123),
-        UnknownField::Nothing,
-        Received::Frame(frame),
-        &[],
-    );
-    answered(name, step);
+    handed(name, Scq::REQUEST_SECTION, done, frame);
 }
 
 pub fn closes() {
@@ -247,7 +235,7 @@ fn put(name: &[u8], staged: usize, payload: &[u8]) {
     let r = record(Scq::REQUEST_SECTION, 2, staged, false);
     let step = r.on_asdu(
         &mut store,
-        header(125),
+        header(125, 13, false),
         UnknownField::Nothing,
         Received::Frame(frame),
         payload,
@@ -256,16 +244,18 @@ fn put(name: &[u8], staged: usize, payload: &[u8]) {
     octets(&store);
 }
 
+fn spaced(octet: u8) {
+    print::text(b" ");
+    print::number(octet as u64);
+}
+
 fn octets(store: &[u8; 8]) {
-    print::text(b" ");
-    print::number(store[0] as u64);
-    print::text(b" ");
-    print::number(store[3] as u64);
-    print::text(b" ");
-    print::number(store[4] as u64);
-    print::text(b" ");
-    print::number(store[5] as u64);
-    print::line(b"", store[7] as u64);
+    spaced(store[0]);
+    spaced(store[3]);
+    spaced(store[4]);
+    spaced(store[5]);
+    spaced(store[7]);
+    print::text(b"\n");
 }
 
 pub fn stores() {
@@ -278,11 +268,9 @@ pub fn stores() {
 // ---- Ends and records
 
 fn sent_back(name: &[u8], cause: u8) {
-    let mut h = header(122);
-    h.negative = true;
-    h.cause = Cause { value: cause };
     let mut store = [200u8, 100, 3, 4, 5, 6, 7, 8];
     let r = record(Scq::SELECT_FILE, 2, 2, false);
+    let h = header(122, cause, true);
     let step = r.on_asdu(
         &mut store,
         h,
@@ -304,7 +292,7 @@ fn misfit(name: &[u8], kept: usize, staged: usize) {
     let r = record(Scq::SELECT_FILE, kept, staged, true);
     let step = r.on_asdu(
         &mut store,
-        header(119),
+        header(119, 13, false),
         UnknownField::Nothing,
         Received::Undecodable,
         &[],
