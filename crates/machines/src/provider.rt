@@ -120,8 +120,6 @@ pub fn makings() {
     made(b"file of 0", 2, 1, 100, &[]);
     made(b"file of 4096", 2, 1, 100, &[1; 4096]);
     made(b"file of 4097", 2, 1, 100, &[1; 4097]);
-    made(b"file of 1044480", 2, 1, 100, &[1; 1044480]);
-    made(b"file of 1044481", 2, 1, 100, &[1; 1044481]);
     made(b"widths, then addresses", 0, 0, 100, &[]);
     made(b"own common address 0", 2, 0, 100, &[]);
     made(b"object address 16777216", 2, 1, 16777216, &[]);
