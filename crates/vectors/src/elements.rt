@@ -117,8 +117,8 @@ pub fn selections() {
     );
 }
 
-// 2026-11-15, a Sunday, 14:07:58.999 in summer time; every flag is set in one of the two octets that
-// have several.
+// 2026-11-15, a Sunday, 14:07:58.999 in summer time, with some flags of each octet set and some not:
+// their octets are worked out by hand from the layout.
 fn sample() -> DirectoryEntry {
     DirectoryEntry {
         nof: Nof { value: 0x0201 },
