@@ -23,7 +23,8 @@ use Rattle.receive.specs.Record.{freshReceiver, receiverMade, storeAgrees, writ
 use Rattle.receive.specs.Answers.{onFileReady, onSectionReady, onSectionClose, onFileClose, onClose, onSegment, receive}
 use Rattle.exchange.specs.Exchange.{Side, byProvider, byReceiver, Passing}
 use Rattle.exchange.specs.Transfer.{Sound, senderOf, Radio, Transfer, Transferred, providerFrames, receiverFrames, exchanged}
-use Rattle.exchange.specs.Script.{lineOf, station, ownHeaders, scriptFile, damagedOnce, scriptLines}
+use Rattle.exchange.specs.Lines.{lineOf}
+use Rattle.exchange.specs.Script.{station, ownHeaders, scriptFile, damagedOnce, scriptLines}
 use Rattle.exchange.proofs.Damaging.{script-radio}
 use Rattle.exchange.proofs.Theorem.{two-party-transfer}
 

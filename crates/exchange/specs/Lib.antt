@@ -1,4 +1,5 @@
 pub mod Exchange
 pub mod Transfer
 pub mod Damaging
+pub mod Lines
 pub mod Script
