@@ -31,7 +31,8 @@ fn is_addressed(sizes: AddressSizes, ca: u16, org: u8, ioa: u32) -> bool
     false
 }
 
-fn header_of(ca: u16, org: u8, frame: Frame) -> Header
+// The header of a frame that goes out under these addresses.
+pub fn header_of(ca: u16, org: u8, frame: Frame) -> Header
     ensures { λ r. ⌜ r ≡ headerOf ca org frame ⌝ }
 {
     let cause = frame.cause();

@@ -97,7 +97,7 @@ impl Provider {
     }
 
     // Whether a making gives this record, of the lent file; else 26.
-    pub(crate) fn agrees(self, file: &[u8]) -> bool
+    pub fn agrees(self, file: &[u8]) -> bool
         ensures { λ r. ⌜ r ≡ fileAgrees self (now (file .entry)) ⌝ }
     {
         let procedure = self.procedure;

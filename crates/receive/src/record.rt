@@ -77,7 +77,7 @@ impl Receiver {
     }
 
     // Whether a making gives this record and the store holds its octets: else 26.
-    pub(crate) fn agrees(self, store: &[u8]) -> bool
+    pub fn agrees(self, store: &[u8]) -> bool
         ensures { λ r. ⌜ r ≡ storeAgrees self (now (store .entry)) ⌝ }
     {
         let procedure = self.procedure;
