@@ -6,9 +6,9 @@ use mathlib.Core.List.{List, [], _∷_, _++_}
 use native.Mathlib.Omega.{arith}
 use lib.ListN.{length, replicate}
 use Rattle.lists.specs.Parts.{joined}
-use Rattle.lists.proofs.Parts.{Fit, joined-all, fit-all}
+use Rattle.lists.proofs.Parts.{Fit, length-parts, joined-all, fit-all}
 use Rattle.ft.specs.Checksum.{octetSum, checksum}
-use Rattle.provide.specs.Sections.{segments}
+use Rattle.provide.specs.Sections.{sectionLength, sectionCount, sections, segments}
 use Rattle.exchange.specs.Transfer.{Sending, arrived, AllDamaged, Damaged, Radio}
 use Rattle.exchange.specs.Damaging.{raised, unhurt, hurt, namings, scriptRadio, Nameable}
 
@@ -40,14 +40,14 @@ hurt-differs limit ((x ∷ o) ∷ os) fit some = rw (arrived-unhurt os) (sum-dif
 
 module _ (limit : ℕ) (pos : 0 < limit) where
   -- a raised first octet is a damaged sending
-  pub hurt-damages : (o : List ℕ) → 0 < length o → Damaged limit o (hurt (segments limit o))
+  pub hurt-damages : (o : List ℕ) → 0 < length o → Damaged limit o hurt
   unfolding segments
   hurt-damages o some = (
     sending-hurt (segments limit o),
     rw (joined-all limit pos o) at (hurt-differs limit (segments limit o) (fit-all limit pos o) (rw (joined-all limit pos o) some)),
   )
 
-  all-damaged : (o : List ℕ) (n : ℕ) → (0 < n → 0 < length o) → AllDamaged limit o (replicate n (hurt (segments limit o)))
+  all-damaged : (o : List ℕ) (n : ℕ) → (0 < n → 0 < length o) → AllDamaged limit o (replicate n hurt)
   all-damaged o zero some = tt
   all-damaged o (suc n) some = (hurt-damages o (some (omega arith)), all-damaged o n (λ h. some (omega arith)))
 
@@ -56,7 +56,11 @@ module _ (limit : ℕ) (pos : 0 < limit) where
   arrived-whole o = arrived-unhurt (segments limit o) ∙ joined-all limit pos o
 
   -- the radio of a script is one that the theorem speaks of
-  pub script-radio : (damage : List ℕ) (nos : ℕ) (os : List (List ℕ)) → Nameable damage nos os → Radio limit os (scriptRadio limit damage nos os)
+  pub script-radio : (damage : List ℕ) (nos : ℕ) (os : List (List ℕ)) → Nameable damage nos os → Radio limit os (scriptRadio damage nos (length os))
   script-radio damage nos [] named = tt
   script-radio damage nos (o ∷ os) named =
       (all-damaged o (namings nos damage) (named .0), (sending-unhurt (segments limit o), arrived-whole o), script-radio damage (suc nos) os (named .1))
+
+  pub script-sendings : (damage file : List ℕ) → Nameable damage 1 (sections file) → Radio limit (sections file) (scriptRadio damage 1 (sectionCount (length file)))
+  unfolding sections
+  script-sendings damage file named = rw (length-parts (sectionCount (length file)) (sectionLength (length file)) file) at (script-radio damage 1 (sections file) named)

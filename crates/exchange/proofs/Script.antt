@@ -25,7 +25,7 @@ use Rattle.exchange.specs.Exchange.{Side, byProvider, byReceiver, Passin
 use Rattle.exchange.specs.Transfer.{Sound, senderOf, Radio, Transfer, Transferred, providerFrames, receiverFrames, exchanged}
 use Rattle.exchange.specs.Lines.{lineOf}
 use Rattle.exchange.specs.Script.{station, ownHeaders, scriptFile, damagedOnce, scriptLines}
-use Rattle.exchange.proofs.Damaging.{script-radio}
+use Rattle.exchange.proofs.Damaging.{script-sendings}
 use Rattle.exchange.proofs.Theorem.{two-party-transfer}
 
 pub script-sound : (before : List Passing) (x : Passing) (s : Side) → Sound (senderOf (station Controlled) (station Controlling) s) (x .packet .frame) (ownHeaders before x)
@@ -39,7 +39,7 @@ limit-is = refl
 
 pub script-damage : Radio (segmentLimit conventional) (sections scriptFile) damagedOnce
 unfolding sections sectionLength sectionCount divCeil when
-script-damage = script-radio (segmentLimit conventional) (rw limit-is (lit< tt)) (1 ∷ []) 1 (sections scriptFile) (λ h. lit< tt, tt)
+script-damage = script-sendings (segmentLimit conventional) (rw limit-is (lit< tt)) (1 ∷ []) scriptFile (λ h. lit< tt, tt)
 
 -- the premises are met: a Provider that is controlled, a store of three octets
 unfoldable pub script : Transfer

@@ -19,7 +19,7 @@ use Rattle.frame.specs.declared.Frame.{Frame}
 use Rattle.frame.specs.declared.Frame.the-variants as F
 use Rattle.frame.specs.Answers.{answersTo, namesAgree, ackAnswered, oneOf}
 use Rattle.ft.specs.Checksum.{checksum}
-use Rattle.provide.specs.Sections.{sectionLength, sectionCount}
+use Rattle.provide.specs.Sections.{sectionLength, sectionCount, segments}
 use Rattle.provide.specs.Replies.{octetsOf, sectionReady, closeFrame}
 use Rattle.provide.specs.Requests.{replying, onAck}
 use Rattle.provide.specs.declared.Reply.the-variants.{SectionReady, Section, FileClose}
@@ -34,11 +34,11 @@ use Rattle.receive.specs.declared.Length.{Length}
 use Rattle.receive.specs.declared.Length.the-variants.{Known}
 use Rattle.receive.specs.declared.ReceiverAnswer.{ReceiverAnswer}
 use Rattle.receive.specs.declared.ReceiverAnswer.the-variants as RA
-use Rattle.exchange.specs.Exchange.{byProvider, byReceiver, Fate, Passing, flown, Exchange, provided, sentBy}
+use Rattle.exchange.specs.Exchange.{byProvider, byReceiver, Noise, Passing, flown, Exchange, provided, sentBy}
 use Rattle.exchange.specs.Transfer.{Transfer, Sendings, AllDamaged, Intact, arrived, Radio, inOrder, sendingFrames, damagedSendings, providerFrames, receiverFrames}
 use Rattle.exchange.proofs.Hearing.{P, R, short, provider-fresh, receiver-fresh, hears-ack}
 use Rattle.exchange.proofs.Steps.{Adds, adds, Ends, Ex, sc, ack, ask, tell, back, asked-sc, asked-ack, takes}
-use Rattle.exchange.proofs.Sendings.{limit, Heard, packets, sending-passes, accepts, heard-call, damaged-pass}
+use Rattle.exchange.proofs.Sendings.{limit, Heard, packets, sent-payloads, sending-passes, accepts, heard-call, damaged-pass}
 
 module _ (m : Transfer) where
   -- what was asked is answered by the section that is ready
@@ -50,16 +50,16 @@ module _ (m : Transfer) where
   module _ (wide : 0 < limit m) (l : Length) (nos : Nos) (acc o : List ℕ) (is : octetsOf (P m) (m .file) nos ≡ o) (small : length o ≤ 0xFFFFFF)
       (x : Sendings) (bad : AllDamaged (limit m) o (x .damaged)) (good : Intact (limit m) o (x .intact)) where
     -- its last sending
-    intact-passes : (radio : List (List Fate)) (s : Frame) (rest : List ℕ) (t : List Passing) (u : ProviderAnswer) (v : ReceiverAnswer) → Heard m s nos → length o ≤ length rest
+    intact-passes : (radio : List Noise) (s : Frame) (rest : List ℕ) (t : List Passing) (u : ProviderAnswer) (v : ReceiverAnswer) → Heard m s nos → length o ≤ length rest
         → ((t′ : List Passing) → Adds t t′ (divCeil (length o) (limit m) + 1) 0
         → Ends m (Ex m (ask m (ack m 3 nos) ∷ []) (ack m 3 nos) l (acc ++ o) [] (drop (length o) rest) radio t′ u (RA.Send (ack m 3 nos))))
-        → Ends m (Ex m (flown (x .intact) (packets m nos o)) s l acc [] rest radio t u v)
+        → Ends m (Ex m (flown (x .intact (segments (limit m) o)) (packets m nos o)) s l acc [] rest radio t u v)
     intact-passes radio s rest t u v heard fits k =
-        sending-passes m wide l nos acc o radio s (x .intact) rest t u v heard (good .0) fits
-        (λ t′ v′ d. accepts m wide l nos acc o s heard (arrived (x .intact)) (drop (length (arrived (x .intact))) rest) radio t′ u v′ (ap checksum (good .1))
+        sending-passes m wide l nos acc o radio s (x .intact (segments (limit m) o)) rest t u v heard (good .0) fits
+        (λ t′ v′ d. accepts m wide l nos acc o s heard (arrived (x .intact (segments (limit m) o))) (drop (length (arrived (x .intact (segments (limit m) o)))) rest) radio t′ u v′ (ap checksum (good .1))
         (λ t″ d′. rw (good .1) (k t″ (omega arith))))
 
-    pub section-passes : (radio : List (List Fate)) (s : Frame) (rest : List ℕ) (t : List Passing) (u : ProviderAnswer) (v : ReceiverAnswer) → Awaits s nos → length o ≤ length rest
+    pub section-passes : (radio : List Noise) (s : Frame) (rest : List ℕ) (t : List Passing) (u : ProviderAnswer) (v : ReceiverAnswer) → Awaits s nos → length o ≤ length rest
         → ((t′ : List Passing) (u′ : ProviderAnswer) → Adds t t′ (1 + (1 + length (x .damaged)) * (divCeil (length o) (limit m) + 1)) (1 + length (x .damaged))
         → Ends m (Ex m (ask m (ack m 3 nos) ∷ []) (ack m 3 nos) l (acc ++ o) [] (drop (length o) rest) radio t′ u′ (RA.Send (ack m 3 nos))))
         → Ends m (Ex m (tell m (sectionReady (P m) (m .file) nos) ∷ []) s l acc [] rest (x .damaged ++ (x .intact ∷ radio)) t u v)
@@ -69,7 +69,7 @@ module _ (m : Transfer) where
         (λ t′. Ex m (ask m (sc m 6 nos) ∷ []) (sc m 6 nos) l acc [] rest (x .damaged ++ (x .intact ∷ radio)) t′ u (RA.Send (sc m 6 nos)))
         refl refl (simp (is, le-leb (length o) 0xFFFFFF small)) (awaits _) refl
         (λ t₁ d₁. asked-sc m (sc m 6 nos) l acc [] rest _ t₁ u _ nos 6 (Section nos) refl (requests-section (P m) nos 0)
-        (λ t₂ d₂. rw is
+        (λ t₂ d₂. rw (is, sent-payloads m nos o)
         (damaged-pass m wide l nos acc o is (x .intact) radio (x .damaged) (sc m 6 nos) rest t₂ _ _ (heard-call m nos) bad fits
         (λ s′ rest′ t₃ u′ v′ heard e b d₃.
         intact-passes radio s′ rest′ t₃ u′ v′ heard (rw e fits) (λ t₄ d₄. rw b (k t₄ u′ (omega arith)))))))
@@ -102,7 +102,7 @@ module _ (m : Transfer) where
   -- ---- the file's close, its acknowledgement, and the end
 
   -- the Receiver has ended
-  abbrev closed : Nos → List ℕ → List (List Fate) → ProviderAnswer → List Passing → Exchange
+  abbrev closed : Nos → List ℕ → List Noise → ProviderAnswer → List Passing → Exchange
   closed nos rest radio u t =
       record {
         queue = ask m (ack m 1 nos) ∷ [];
@@ -115,7 +115,7 @@ module _ (m : Transfer) where
         receiverSaid = RA.Complete (ack m 1 nos) (length (m .file));
       }
 
-  ends : (nos : Nos) (rest : List ℕ) (radio : List (List Fate)) (u : ProviderAnswer) (t : List Passing)
+  ends : (nos : Nos) (rest : List ℕ) (radio : List Noise) (u : ProviderAnswer) (t : List Passing)
       → nos ≡ record { value = count } → rest ≡ drop (length (m .file)) (m .store)
       → sentBy byProvider t ≡ providerFrames m → sentBy byReceiver t + 1 ≡ receiverFrames m → Ends m (closed nos rest radio u t)
   ends nos rest radio u t last behind na mb =
@@ -135,7 +135,7 @@ module _ (m : Transfer) where
         },
       )
 
-  finish : (nos : Nos) (rest : List ℕ) (radio : List (List Fate)) (t : List Passing) (u : ProviderAnswer) (v : ReceiverAnswer)
+  finish : (nos : Nos) (rest : List ℕ) (radio : List Noise) (t : List Passing) (u : ProviderAnswer) (v : ReceiverAnswer)
       → nos ≡ record { value = count } → rest ≡ drop (length (m .file)) (m .store)
       → sentBy byProvider t + 1 ≡ providerFrames m → sentBy byReceiver t + 1 ≡ receiverFrames m
       → Ends m (Ex m (tell m (closeFrame (P m) nos 1 (m .file)) ∷ []) (ack m 3 nos) (Known (length (m .file))) (m .file) [] rest radio t u v)
@@ -169,7 +169,7 @@ module _ (m : Transfer) where
     mine = (1 + length (x .damaged)) * (divCeil (length (take size rem)) (limit m) + 1)
 
     -- a section that is followed by another
-    one-passes : (radio : List (List Fate)) → suc j < count
+    one-passes : (radio : List Noise) → suc j < count
         → ((t′ : List Passing) (u′ : ProviderAnswer) (v′ : ReceiverAnswer) → Adds t t′ (1 + mine) (2 + length (x .damaged))
         → Ends m (Ex m (tell m (sectionReady (P m) (m .file) (number (suc j))) ∷ []) (ack m 3 (number j)) (Known (length (m .file))) (acc ++ take size rem) []
         (drop (length (take size rem)) rest) radio t′ u′ v′))

@@ -2,9 +2,10 @@
 use Prim.Native.Nat.{ℕ, _+_, _-_, _*_, _≤_, _<_}
 use mathlib.Core.Path.{_≡_, refl, sym, ap, _∙_}
 use mathlib.Core.Logic.{_≢_}
-use mathlib.Core.Bool.{true}
+use mathlib.Core.Bool.{true, false}
 use mathlib.Core.List.{List, [], _∷_, _++_, map, append-nil, append-assoc}
 use native.Mathlib.Omega.{arith}
+use lib.Dec.{eqb}
 use lib.ListN.{length, drop, length-append, length-drop}
 use lib.Seq.{drop-append-add, drop-drop}
 use borrow.Author.Tests.{eq-eqb}
@@ -18,6 +19,7 @@ use Rattle.asdu.specs.declared.file.Lsq.{Lsq}
 use Rattle.asdu.specs.declared.file.Chs.{Chs}
 use Rattle.frame.specs.declared.Frame.{Frame}
 use Rattle.frame.specs.declared.Frame.the-variants as F
+use Rattle.frame.specs.Frames.{typeOf}
 use Rattle.frame.specs.Answers.{answersTo, namesAgree, calledSection, scAnswered, sectionAnswered, ackAnswered, oneOf}
 use Rattle.ft.specs.Checksum.{checksum}
 use Rattle.provide.specs.Sections.{segments}
@@ -32,7 +34,7 @@ use Rattle.receive.specs.declared.ReceiverAnswer.{ReceiverAnswer}
 use Rattle.receive.specs.declared.ReceiverAnswer.the-variants as RA
 use Rattle.receive.specs.declared.Sent.the-variants as S
 use Rattle.receive.proofs.Facts.{section-accepted, section-dropped}
-use Rattle.exchange.specs.Exchange.{Fate, lost, arrives, Passing, flown, nextSending, sendingsLeft}
+use Rattle.exchange.specs.Exchange.{Fate, lost, arrives, Passing, Noise, flown, payloads, nextSending, sendingsLeft}
 use Rattle.exchange.specs.Transfer.{Transfer, Sending, arrived, Damaged, AllDamaged}
 use Rattle.exchange.proofs.Hearing.{P, R}
 use Rattle.exchange.proofs.Steps.{Adds, Ends, Ex, sc, ack, ask, tell, asked-ack, takes, loses, gains}
@@ -70,7 +72,7 @@ module _ (m : Transfer) where
 
   -- ---- the segments: each lemma is one clause of the recursion
 
-  module _ (l : Length) (nos : Nos) (acc : List ℕ) (radio : List (List Fate)) (s : Frame) (u : ProviderAnswer) (c : Frame) (heard : Heard s nos) where
+  module _ (l : Length) (nos : Nos) (acc : List ℕ) (radio : List Noise) (s : Frame) (u : ProviderAnswer) (c : Frame) (heard : Heard s nos) where
     -- these segments pass with these fates: what arrives of them is under way, and frame c is next
     unfoldable Pass : List (List ℕ) → List Fate → Type 0
     Pass os fs =
@@ -117,8 +119,17 @@ module _ (m : Transfer) where
   abbrev pub packets : Nos → List ℕ → List Packet
   packets nos o = behind nos (segments limit o) (closeFrame (P m) nos 3 o)
 
+  payloads-behind : (nos : Nos) (c : Frame) → eqb (typeOf c) 125 ≡ false → (os : List (List ℕ)) → payloads (behind nos os c) ≡ os
+  unfolding when
+  payloads-behind nos c other [] = simp other
+  payloads-behind nos c other (o ∷ os) = ap (λ (r : List (List ℕ)). o ∷ r) (payloads-behind nos c other os)
+
+  -- the noise sees the section's segments
+  pub sent-payloads : (nos : Nos) (o : List ℕ) → payloads (packets nos o) ≡ segments limit o
+  sent-payloads nos o = payloads-behind nos (closeFrame (P m) nos 3 o) refl (segments limit o)
+
   module _ (wide : 0 < limit) (l : Length) (nos : Nos) (acc o : List ℕ) where
-    pub sending-passes : (radio : List (List Fate)) (s : Frame) (fs : List Fate) (rest : List ℕ) (t : List Passing) (u : ProviderAnswer) (v : ReceiverAnswer)
+    pub sending-passes : (radio : List Noise) (s : Frame) (fs : List Fate) (rest : List ℕ) (t : List Passing) (u : ProviderAnswer) (v : ReceiverAnswer)
         → Heard s nos → Sending (segments limit o) fs → length o ≤ length rest
         → ((t′ : List Passing) (v′ : ReceiverAnswer) → Adds t t′ (divCeil (length o) limit) 0
         → Ends m (Ex m (tell m (closeFrame (P m) nos 3 o) ∷ []) s l acc (arrived fs) (drop (length (arrived fs)) rest) radio t′ u v′))
@@ -129,7 +140,7 @@ module _ (m : Transfer) where
         (rw (joined-all limit wide o) fits)
         (λ t′ v′ d. k t′ v′ (rw length-parts at d))
 
-    module _ (s : Frame) (heard : Heard s nos) (sec rest : List ℕ) (radio : List (List Fate)) (t : List Passing) (u : ProviderAnswer) (v : ReceiverAnswer) where
+    module _ (s : Frame) (heard : Heard s nos) (sec rest : List ℕ) (radio : List Noise) (t : List Passing) (u : ProviderAnswer) (v : ReceiverAnswer) where
       -- the close finds another sum: the section is dropped, and asked for again
       refuses : checksum sec ≢ checksum o
           → ((t′ : List Passing) → Adds t t′ 1 0
@@ -173,33 +184,33 @@ module _ (m : Transfer) where
 
   module _ (wide : 0 < limit) (l : Length) (nos : Nos) (acc o : List ℕ) (is : octetsOf (P m) (m .file) nos ≡ o) where
     -- a damaged sending passes: nothing is kept of it, and the next one begins
-    damaged-one : (radio : List (List Fate)) (x : List Fate) (s : Frame) (rest : List ℕ) (t : List Passing) (u : ProviderAnswer) (v : ReceiverAnswer)
+    damaged-one : (radio : List Noise) (x : Noise) (s : Frame) (rest : List ℕ) (t : List Passing) (u : ProviderAnswer) (v : ReceiverAnswer)
         → Heard s nos → Damaged limit o x → length o ≤ length rest
         → ((t′ : List Passing) → Adds t t′ (divCeil (length o) limit + 1) 1
-        → Ends m (Ex m (flown (nextSending true radio) (packets nos o)) (ack m 4 nos) l acc [] (arrived x ++ drop (length (arrived x)) rest)
+        → Ends m (Ex m (flown (nextSending true radio (segments limit o)) (packets nos o)) (ack m 4 nos) l acc [] (arrived (x (segments limit o)) ++ drop (length (arrived (x (segments limit o)))) rest)
         (sendingsLeft true radio) t′ (PA.Running (Section nos)) (RA.Send (ack m 4 nos))))
-        → Ends m (Ex m (flown x (packets nos o)) s l acc [] rest radio t u v)
+        → Ends m (Ex m (flown (x (segments limit o)) (packets nos o)) s l acc [] rest radio t u v)
     damaged-one radio x s rest t u v heard bad fits k =
-        sending-passes wide l nos acc o radio s x rest t u v heard (bad .0) fits
-        (λ t′ v′ d. refuses wide l nos acc o s heard (arrived x) (drop (length (arrived x)) rest) radio t′ u v′ (bad .1)
-        (λ t″ d′. asked-ack m (ack m 4 nos) l acc [] (arrived x ++ drop (length (arrived x)) rest) radio t″ u _ nos 4 (Section nos) refl (section-again (P m) nos 0)
-        (λ t‴ d″. rw is (k t‴ (omega arith)))))
+        sending-passes wide l nos acc o radio s (x (segments limit o)) rest t u v heard (bad .0) fits
+        (λ t′ v′ d. refuses wide l nos acc o s heard (arrived (x (segments limit o))) (drop (length (arrived (x (segments limit o)))) rest) radio t′ u v′ (bad .1)
+        (λ t″ d′. asked-ack m (ack m 4 nos) l acc [] (arrived (x (segments limit o)) ++ drop (length (arrived (x (segments limit o)))) rest) radio t″ u _ nos 4 (Section nos) refl (section-again (P m) nos 0)
+        (λ t‴ d″. rw (is, sent-payloads nos o) (k t‴ (omega arith)))))
 
     -- all of them, up to the intact one: the store behind the section is as it was
-    pub damaged-pass : (good : List Fate) (radio : List (List Fate)) (xs : List (List Fate)) (s : Frame) (rest : List ℕ) (t : List Passing) (u : ProviderAnswer) (v : ReceiverAnswer)
+    pub damaged-pass : (good : Noise) (radio : List Noise) (xs : List Noise) (s : Frame) (rest : List ℕ) (t : List Passing) (u : ProviderAnswer) (v : ReceiverAnswer)
         → Heard s nos → AllDamaged limit o xs → length o ≤ length rest
         → ((s′ : Frame) (rest′ : List ℕ) (t′ : List Passing) (u′ : ProviderAnswer) (v′ : ReceiverAnswer)
         → Heard s′ nos → length rest′ ≡ length rest → drop (length o) rest′ ≡ drop (length o) rest
         → Adds t t′ (length xs * (divCeil (length o) limit + 1)) (length xs)
-        → Ends m (Ex m (flown good (packets nos o)) s′ l acc [] rest′ radio t′ u′ v′))
-        → Ends m (Ex m (flown (nextSending true (xs ++ (good ∷ radio))) (packets nos o)) s l acc [] rest (sendingsLeft true (xs ++ (good ∷ radio))) t u v)
+        → Ends m (Ex m (flown (good (segments limit o)) (packets nos o)) s′ l acc [] rest′ radio t′ u′ v′))
+        → Ends m (Ex m (flown (nextSending true (xs ++ (good ∷ radio)) (segments limit o)) (packets nos o)) s l acc [] rest (sendingsLeft true (xs ++ (good ∷ radio))) t u v)
     unfolding segments
     damaged-pass good radio [] s rest t u v heard bad fits k = k s rest t u v heard refl refl (omega arith)
     damaged-pass good radio (x ∷ xs) s rest t u v heard bad fits k =
-        let small : length (arrived x) ≤ length o = rw (joined-all limit wide o) at (arrived-fits (segments limit o) x (bad .0 .0)) in
-        let alike : length (arrived x ++ drop (length (arrived x)) rest) ≡ length rest = over-length (arrived x) rest (omega arith) in
+        let small : length (arrived (x (segments limit o))) ≤ length o = rw (joined-all limit wide o) at (arrived-fits (segments limit o) (x (segments limit o)) (bad .0 .0)) in
+        let alike : length (arrived (x (segments limit o)) ++ drop (length (arrived (x (segments limit o)))) rest) ≡ length rest = over-length (arrived (x (segments limit o))) rest (omega arith) in
         damaged-one (xs ++ (good ∷ radio)) x s rest t u v heard (bad .0) fits
         (λ t′ d.
-        damaged-pass good radio xs (ack m 4 nos) (arrived x ++ drop (length (arrived x)) rest) t′ _ _ (heard-refusal nos) (bad .1) (rw alike fits)
+        damaged-pass good radio xs (ack m 4 nos) (arrived (x (segments limit o)) ++ drop (length (arrived (x (segments limit o)))) rest) t′ _ _ (heard-refusal nos) (bad .1) (rw alike fits)
         (λ s′ rest′ t″ u′ v′ heard′ e b d′.
-        k s′ rest′ t″ u′ v′ heard′ (e ∙ alike) (b ∙ over-behind (length o) (arrived x) rest small) (omega arith)))
+        k s′ rest′ t″ u′ v′ heard′ (e ∙ alike) (b ∙ over-behind (length o) (arrived (x (segments limit o))) rest small) (omega arith)))

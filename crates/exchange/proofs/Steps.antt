@@ -26,7 +26,7 @@ use Rattle.receive.specs.declared.Sent.the-variants as S
 use Rattle.receive.specs.declared.ReceiverAnswer.{ReceiverAnswer}
 use Rattle.receive.specs.declared.ReceiverAnswer.the-variants as RA
 use Rattle.receive.proofs.Facts.{segment-taken}
-use Rattle.exchange.specs.Exchange.{Side, byProvider, byReceiver, Fate, lost, arrives, Passing, untouched, isSection, nextSending, sendingsLeft, flown, Exchange, provided, taken, step, run, oneBy, sentBy}
+use Rattle.exchange.specs.Exchange.{Side, byProvider, byReceiver, Fate, lost, arrives, Passing, untouched, isSection, Noise, sendingsLeft, sent, Exchange, provided, taken, step, run, oneBy, sentBy}
 use Rattle.exchange.specs.Transfer.{Transfer, Transferred, providerFrames, receiverFrames}
 use Rattle.exchange.proofs.Hearing.{P, R, hears-sc, hears-ack, receiver-hears}
 
@@ -53,7 +53,7 @@ module _ (m : Transfer) where
       × Transferred m (run (m .file) (m .headers) k e)
 
   -- an exchange under way: the store is what is accepted, what is under way, and the rest; t was passed
-  abbrev pub Ex : List Passing → Frame → Length → List ℕ → List ℕ → List ℕ → List (List Fate) → List Passing → ProviderAnswer → ReceiverAnswer → Exchange
+  abbrev pub Ex : List Passing → Frame → Length → List ℕ → List ℕ → List ℕ → List Noise → List Passing → ProviderAnswer → ReceiverAnswer → Exchange
   Ex q s l acc sec rest radio t u v =
       record {
         queue = q;
@@ -83,10 +83,10 @@ module _ (m : Transfer) where
   hit nos o f = record { sender = byProvider; packet = segmentPacket (P m) nos o; fate = f }
 
   -- what the Provider's reply puts into the queue, and the sendings to come after it
-  abbrev pub queued : Reply → List (List Fate) → List Passing
-  queued r radio = flown (nextSending (isSection r) radio) (replies (P m) (m .file) r)
+  abbrev pub queued : Reply → List Noise → List Passing
+  queued r radio = sent radio (isSection r) (replies (P m) (m .file) r)
 
-  abbrev pub left : Reply → List (List Fate) → List (List Fate)
+  abbrev pub left : Reply → List Noise → List Noise
   left r radio = sendingsLeft (isSection r) radio
 
   pub back : (x : Passing) (e e′ : Exchange) → step (m .file) (m .headers) e ≡ e′ → e′ .passed ≡ e .passed ++ (x ∷ []) → Ends e′ → Ends e
@@ -100,7 +100,7 @@ module _ (m : Transfer) where
     room : length acc + length sec ≤ length (acc ++ (sec ++ rest))
     room = simp length-append (omega arith)
 
-    module _ (radio : List (List Fate)) (t : List Passing) (u : ProviderAnswer) (v : ReceiverAnswer) where
+    module _ (radio : List Noise) (t : List Passing) (u : ProviderAnswer) (v : ReceiverAnswer) where
       -- the Provider answers a request that keeps it running
       pub asked-sc : (nos : Nos) (action : ℕ) (r : Reply) → leb action 15 ≡ true
           → onSc (P m) nos (record { action = action; error = 0 }) ≡ replying (P m) r

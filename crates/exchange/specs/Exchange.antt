@@ -82,16 +82,25 @@ isSending (P.FileRejected q) = false
 isSending (P.Refused cause mirror) = false
 isSending (P.Err e) = false
 
--- a radio says of each sending what becomes of its segments, in their order; where an answer begins a sending, it is the next of them
-abbrev pub nextSending : Bool → List (List Fate) → List Fate
-nextSending true [] = []
-nextSending true (s ∷ radio) = s
-nextSending false radio = []
+-- what becomes of a sending's segments, in their order; it may depend on what is sent
+abbrev pub Noise : Type 0
+Noise = List (List ℕ) → List Fate
 
-abbrev pub sendingsLeft : Bool → List (List Fate) → List (List Fate)
+-- a radio has a noise for each sending to come; where an answer begins a sending, it meets the next of them
+abbrev pub nextSending : Bool → List Noise → List (List ℕ) → List Fate
+nextSending true [] os = []
+nextSending true (n ∷ radio) os = n os
+nextSending false radio os = []
+
+abbrev pub sendingsLeft : Bool → List Noise → List Noise
 sendingsLeft true [] = []
-sendingsLeft true (s ∷ radio) = radio
+sendingsLeft true (n ∷ radio) = radio
 sendingsLeft false radio = radio
+
+-- the payloads of the segments among frames
+abbrev pub payloads : List Packet → List (List ℕ)
+payloads [] = []
+payloads (x ∷ xs) = when (eqb (typeOf (x .frame)) 125) (x .payload ∷ payloads xs) (payloads xs)
 
 -- the Provider's frames on their way: the segments meet their fates, and where none is said they and all other frames are untouched
 abbrev pub flown : List Fate → List Packet → List Passing
@@ -100,6 +109,10 @@ flown [] (x ∷ xs) = untouched byProvider x ∷ flown [] xs
 flown (f ∷ fates) (x ∷ xs) =
     when (eqb (typeOf (x .frame)) 125) (record { sender = byProvider; packet = x; fate = f } ∷ flown fates xs)
     (untouched byProvider x ∷ flown (f ∷ fates) xs)
+
+-- what the Provider sends, on its way
+abbrev pub sent : List Noise → Bool → List Packet → List Passing
+sent radio begins xs = flown (nextSending begins radio (payloads xs)) xs
 
 -- ---- the exchange
 
@@ -111,7 +124,7 @@ pub record Exchange : Type 0 where
   pub receiver : Receiver
   pub store : List ℕ
   -- the sendings to come
-  pub radio : List (List Fate)
+  pub radio : List Noise
   -- the frames taken, in order
   pub passed : List Passing
   -- the last answer of each machine
@@ -122,7 +135,7 @@ pub record Exchange : Type 0 where
 abbrev pub provided : List ℕ → Exchange → Passing → List Passing → ProviderStep → Exchange
 provided file e x rest s =
     record {
-      queue = rest ++ flown (nextSending (isSending (s .answer)) (e .radio)) (providerSends (s .provider) file (s .answer));
+      queue = rest ++ sent (e .radio) (isSending (s .answer)) (providerSends (s .provider) file (s .answer));
       provider = s .provider;
       receiver = e .receiver;
       store = e .store;
@@ -186,7 +199,7 @@ run file headers zero e = e
 run file headers (suc k) e = run file headers k (step file headers e)
 
 -- the Receiver's start queues the first frame
-abbrev pub begun : Provider → Receiver → List ℕ → List (List Fate) → Exchange
+abbrev pub begun : Provider → Receiver → List ℕ → List Noise → Exchange
 begun p r store radio =
     record {
       queue = map (untouched byReceiver) (receiverSends (started r store .answer));

@@ -2,12 +2,12 @@
 use Prim.Native.Nat.{ℕ}
 use mathlib.Core.Bool.{true, false}
 use mathlib.Core.List.{List, [], _∷_}
-use Rattle.asdu.specs.Sizes.{segmentLimit}
+use lib.ListN.{length}
 use Rattle.ft.specs.Procedure.{conventional}
 use Rattle.ft.specs.Building.{headerOf}
 use Rattle.ft.specs.declared.direction.Role.{Role}
 use Rattle.ft.specs.declared.procedure.FileTransferProcedure.{FileTransferProcedure}
-use Rattle.provide.specs.Sections.{sections}
+use Rattle.provide.specs.Sections.{sectionCount}
 use Rattle.exchange.specs.Exchange.{Side, byProvider, byReceiver, Passing, Headers}
 use Rattle.exchange.specs.Transfer.{Sendings}
 use Rattle.exchange.specs.Damaging.{scriptRadio}
@@ -26,7 +26,7 @@ scriptFile = 200 ∷ 100 ∷ []
 
 -- section 1 is damaged once
 abbrev pub damagedOnce : List Sendings
-damagedOnce = scriptRadio (segmentLimit conventional) (1 ∷ []) 1 (sections scriptFile)
+damagedOnce = scriptRadio (1 ∷ []) 1 (sectionCount (length scriptFile))
 
 abbrev p : ℕ → ℕ → ℕ → ℕ → Line
 p t nos q sum = record { sender = byProvider; fields = t ∷ nos ∷ q ∷ sum ∷ [] }

@@ -26,7 +26,7 @@ use Rattle.receive.specs.declared.ReceiverResult.the-variants as RM
 use Rattle.receive.specs.declared.Sent.the-variants as S
 use Rattle.receive.specs.declared.Length.the-variants.{Known}
 use Rattle.receive.specs.declared.ReceiverAnswer.the-variants as R
-use Rattle.exchange.specs.Exchange.{Side, byProvider, byReceiver, Passing, Fate, lost, arrives, Exchange, Headers, run, begun, sentBy}
+use Rattle.exchange.specs.Exchange.{Side, byProvider, byReceiver, Passing, Fate, lost, arrives, Noise, Exchange, Headers, run, begun, sentBy}
 
 -- ---- a sound header of a frame that station s sends
 
@@ -63,20 +63,20 @@ arrived (arrives a ∷ fs) = a ++ arrived fs
 
 -- a section's sendings: so many damaged ones, then one that is intact
 pub record Sendings : Type 0 where
-  pub damaged : List (List Fate)
-  pub intact : List Fate
+  pub damaged : List Noise
+  pub intact : Noise
 
 -- segments are lost or octets altered, so that what arrives differs from the section in sum modulo 256
-abbrev pub Damaged : ℕ → List ℕ → List Fate → Type 0
-Damaged limit o s = Sending (segments limit o) s × (checksum (arrived s) ≢ checksum o)
+abbrev pub Damaged : ℕ → List ℕ → Noise → Type 0
+Damaged limit o n = Sending (segments limit o) (n (segments limit o)) × (checksum (arrived (n (segments limit o))) ≢ checksum o)
 
-abbrev pub AllDamaged : ℕ → List ℕ → List (List Fate) → Type 0
+abbrev pub AllDamaged : ℕ → List ℕ → List Noise → Type 0
 AllDamaged limit o [] = Unit {0}
-AllDamaged limit o (s ∷ ss) = Damaged limit o s × AllDamaged limit o ss
+AllDamaged limit o (n ∷ ns) = Damaged limit o n × AllDamaged limit o ns
 
 -- the section arrives
-abbrev pub Intact : ℕ → List ℕ → List Fate → Type 0
-Intact limit o s = Sending (segments limit o) s × (arrived s ≡ o)
+abbrev pub Intact : ℕ → List ℕ → Noise → Type 0
+Intact limit o n = Sending (segments limit o) (n (segments limit o)) × (arrived (n (segments limit o)) ≡ o)
 
 -- for each section in turn: its sendings
 abbrev pub Radio : ℕ → List (List ℕ) → List Sendings → Type 0
@@ -86,7 +86,7 @@ Radio limit (o ∷ os) [] = ⊥
 Radio limit (o ∷ os) (x ∷ xs) = AllDamaged limit o (x .damaged) × Intact limit o (x .intact) × Radio limit os xs
 
 -- all sendings, in their order
-abbrev pub inOrder : List Sendings → List (List Fate)
+abbrev pub inOrder : List Sendings → List Noise
 inOrder [] = []
 inOrder (x ∷ xs) = x .damaged ++ (x .intact ∷ inOrder xs)
 
