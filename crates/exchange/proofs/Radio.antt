@@ -1,7 +1,8 @@
--- Where a sending begins: on a section request and on a negative section acknowledgement, and nowhere else.
+-- Where a sending begins: on a section request and on a negative section acknowledgement, and nowhere else. What its noise sees: the payloads of its segments.
 use Prim.Native.Nat.{ℕ}
-use mathlib.Core.Path.{_≡_, refl, sym, _∙_}
+use mathlib.Core.Path.{_≡_, refl, sym, ap, _∙_}
 use mathlib.Core.Bool.{Bool, true, false}
+use mathlib.Core.List.{List, [], _∷_, _++_, map}
 use lib.Dec.{eqb}
 use borrow.Author.Tests.{eqb-true}
 use Rattle.laws.specs.When.{when}
@@ -9,11 +10,14 @@ use Rattle.laws.proofs.Decide.{eqb-at}
 use Rattle.asdu.specs.declared.file.Nos.{Nos}
 use Rattle.asdu.specs.declared.file.Scq.{Scq}
 use Rattle.asdu.specs.declared.file.Afq.{Afq}
+use Rattle.frame.specs.declared.Frame.{Frame}
+use Rattle.frame.specs.Frames.{typeOf}
+use Rattle.provide.specs.Replies.{bare, segmentPacket}
 use Rattle.provide.specs.Requests.{after, onSc, onAck}
 use Rattle.provide.specs.declared.Provider.{Provider}
 use Rattle.provide.specs.declared.ProviderStep.{ProviderStep}
 use Rattle.provide.specs.declared.Reply.{Reply}
-use Rattle.exchange.specs.Exchange.{isSection, isSending}
+use Rattle.exchange.specs.Exchange.{isSection, isSending, payloads}
 
 abbrev begins : ProviderStep → Bool
 begins s = isSending (s .answer)
@@ -58,3 +62,9 @@ module _ (p : Provider) (nos : Nos) where
   unfolding onAck
   acknowledgement-begins q =
       passed-over (q .action) 3 4 _ _ refl (ready-or-close p nos) (chosen (eqb (q .action) 4) _ _ refl (neither (eqb (q .action) 1) _ _ refl refl))
+
+-- segments, and a frame behind them that is none
+pub payloads-behind : (p : Provider) (nos : Nos) (c : Frame) → eqb (typeOf c) 125 ≡ false → (os : List (List ℕ)) → payloads (map (segmentPacket p nos) os ++ (bare c ∷ [])) ≡ os
+unfolding when
+payloads-behind p nos c other [] = simp other
+payloads-behind p nos c other (o ∷ os) = ap (λ (r : List (List ℕ)). o ∷ r) (payloads-behind p nos c other os)

@@ -2,10 +2,9 @@
 use Prim.Native.Nat.{ℕ, _+_, _-_, _*_, _≤_, _<_}
 use mathlib.Core.Path.{_≡_, refl, sym, ap, _∙_}
 use mathlib.Core.Logic.{_≢_}
-use mathlib.Core.Bool.{true, false}
+use mathlib.Core.Bool.{true}
 use mathlib.Core.List.{List, [], _∷_, _++_, map, append-nil, append-assoc}
 use native.Mathlib.Omega.{arith}
-use lib.Dec.{eqb}
 use lib.ListN.{length, drop, length-append, length-drop}
 use lib.Seq.{drop-append-add, drop-drop}
 use borrow.Author.Tests.{eq-eqb}
@@ -19,7 +18,6 @@ use Rattle.asdu.specs.declared.file.Lsq.{Lsq}
 use Rattle.asdu.specs.declared.file.Chs.{Chs}
 use Rattle.frame.specs.declared.Frame.{Frame}
 use Rattle.frame.specs.declared.Frame.the-variants as F
-use Rattle.frame.specs.Frames.{typeOf}
 use Rattle.frame.specs.Answers.{answersTo, namesAgree, calledSection, scAnswered, sectionAnswered, ackAnswered, oneOf}
 use Rattle.ft.specs.Checksum.{checksum}
 use Rattle.provide.specs.Sections.{segments}
@@ -36,6 +34,7 @@ use Rattle.receive.specs.declared.Sent.the-variants as S
 use Rattle.receive.proofs.Facts.{section-accepted, section-dropped}
 use Rattle.exchange.specs.Exchange.{Fate, lost, arrives, Passing, Noise, flown, payloads, nextSending, sendingsLeft}
 use Rattle.exchange.specs.Transfer.{Transfer, Sending, arrived, Damaged, AllDamaged}
+use Rattle.exchange.proofs.Radio.{payloads-behind}
 use Rattle.exchange.proofs.Hearing.{P, R}
 use Rattle.exchange.proofs.Steps.{Adds, Ends, Ex, sc, ack, ask, tell, asked-ack, takes, loses, gains}
 
@@ -119,14 +118,9 @@ module _ (m : Transfer) where
   abbrev pub packets : Nos → List ℕ → List Packet
   packets nos o = behind nos (segments limit o) (closeFrame (P m) nos 3 o)
 
-  payloads-behind : (nos : Nos) (c : Frame) → eqb (typeOf c) 125 ≡ false → (os : List (List ℕ)) → payloads (behind nos os c) ≡ os
-  unfolding when
-  payloads-behind nos c other [] = simp other
-  payloads-behind nos c other (o ∷ os) = ap (λ (r : List (List ℕ)). o ∷ r) (payloads-behind nos c other os)
-
   -- the noise sees the section's segments
   pub sent-payloads : (nos : Nos) (o : List ℕ) → payloads (packets nos o) ≡ segments limit o
-  sent-payloads nos o = payloads-behind nos (closeFrame (P m) nos 3 o) refl (segments limit o)
+  sent-payloads nos o = payloads-behind (P m) nos (closeFrame (P m) nos 3 o) refl (segments limit o)
 
   module _ (wide : 0 < limit) (l : Length) (nos : Nos) (acc o : List ℕ) where
     pub sending-passes : (radio : List Noise) (s : Frame) (fs : List Fate) (rest : List ℕ) (t : List Passing) (u : ProviderAnswer) (v : ReceiverAnswer)

@@ -1,0 +1,324 @@
+-- The run's record, frame by frame, is the exchange: one step of the record is one step of the exchange that it stands for.
+use Prim.Native.Nat.{ℕ, zero, suc, _+_, _≤_, _<_}
+use mathlib.Core.Path.{_≡_, refl, sym, ap, _∙_}
+use mathlib.Core.Bool.{Bool, true, false}
+use mathlib.Core.List.{List, [], _∷_, _++_, map, append-nil, cons-ne-nil}
+use native.Mathlib.Omega.{arith}
+use native.Mathlib.Numerals.{add-one}
+use native.Mathlib.Decide.{decLt}
+use lib.Dec.{ltb}
+use lib.ListN.{length, drop, getD}
+use borrow.Author.Tests.{lt-ltb}
+use Rattle.laws.specs.When.{when}
+use Rattle.asdu.specs.declared.file.Nos.{Nos}
+use Rattle.asdu.specs.declared.header.UnknownField.the-variants as U
+use Rattle.frame.specs.declared.Frame.{Frame}
+use Rattle.ft.specs.Building.{headerOf}
+use Rattle.ft.specs.declared.admit.Received.the-variants as D
+use Rattle.ft.specs.declared.procedure.FileTransferProcedure.{FileTransferProcedure}
+use Rattle.provide.specs.Record.{fileAgrees}
+use Rattle.provide.specs.Replies.{Packet, bare, fileReady, segmentFrame, closeFrame, octetsOf, limitOf, segmentCount, segmentOf, replies, sectionFrame, replyFrame, replyPayload}
+use Rattle.provide.specs.Sections.{segments}
+use Rattle.provide.specs.declared.Provider.{Provider}
+use Rattle.provide.specs.Requests.{provide}
+use Rattle.provide.specs.declared.ProviderStep.{ProviderStep}
+use Rattle.provide.specs.declared.ProviderAnswer.{ProviderAnswer}
+use Rattle.provide.specs.declared.ProviderAnswer.the-variants as PA
+use Rattle.provide.specs.declared.FrameResult.{FrameResult}
+use Rattle.provide.specs.declared.FrameResult.the-variants as F
+use Rattle.provide.specs.declared.Reply.{Reply}
+use Rattle.provide.specs.declared.Reply.the-variants.{Nothing, FileReady, SectionReady, Section, FileClose}
+use Rattle.provide.proofs.Indexed.{count-is, replies-agree}
+use Rattle.receive.specs.Record.{started}
+use Rattle.receive.specs.Answers.{Outcome, receive}
+use Rattle.receive.specs.declared.Receiver.{Receiver}
+use Rattle.receive.specs.declared.ReceiverAnswer.{ReceiverAnswer}
+use Rattle.receive.specs.declared.ReceiverAnswer.the-variants as RA
+use Rattle.exchange.specs.Exchange.{Side, byReceiver, Passing, untouched, providerSends, receiverSends, isSending, Noise, sent, sendingsLeft, Exchange, provided, taken, stepOn, step, begun}
+use Rattle.exchange.proofs.Radio.{payloads-behind}
+use Rattle.twoparty.specs.Party.{startedParty, arriving, headerBy, asked, replied, afterProvider, afterReceiver, afterSending, nextFrame, advanced, isOver}
+use Rattle.twoparty.specs.Run.{ownHeaders}
+use Rattle.twoparty.specs.declared.Queue.{Queue}
+use Rattle.twoparty.specs.declared.Queue.the-variants as Q
+use Rattle.twoparty.specs.declared.Radio.{Radio}
+use Rattle.twoparty.specs.declared.TwoParty.{TwoParty}
+use Rattle.twoparty.proofs.Machines.{station-same, agreement-same, receive-stays, segment-silent}
+use Rattle.twoparty.proofs.Told.{told, bare-told, flown-none, passingAt, told-at, told-past}
+use Rattle.twoparty.proofs.Tuning.{Unnamed, Tuned, tuned-next, tuned-sent}
+
+-- ---- the queue
+
+module _ (p : Provider) (file : List ℕ) where
+  abbrev pub queueOf : Queue → List Passing
+  queueOf Q.Empty = []
+  queueOf (Q.Receiver f) = untouched byReceiver (bare f) ∷ []
+  queueOf (Q.Provider reply i damaged) = drop i (told damaged (replies p file reply))
+
+  -- what the Provider's answer puts into it
+  module _ (damage : List ℕ) (count : ℕ) (r : Radio) (radio : List Noise) (tuned : Tuned damage count r radio) where
+    one : (f : Frame) → sent radio false (bare f ∷ []) ≡ told (ltb 0 (r .left)) (bare f ∷ [])
+    one f = flown-none (bare f ∷ []) ∙ sym (bare-told (ltb 0 (r .left)) f)
+
+    reply-sent : (reply : Reply) → sent radio (isSending (PA.Running reply)) (replies p file reply) ≡ told (ltb 0 (r .left)) (replies p file reply)
+    reply-sent Nothing = refl
+    reply-sent FileReady = one _
+    reply-sent (SectionReady nos) = one _
+    reply-sent (Section nos) =
+        rw (payloads-behind p nos (closeFrame p nos 3 (octetsOf p file nos)) refl (segments (limitOf p) (octetsOf p file nos)))
+        (tuned-sent damage count p nos (closeFrame p nos 3 (octetsOf p file nos)) (segments (limitOf p) (octetsOf p file nos)) r radio tuned)
+    reply-sent (FileClose nos) = one _
+
+    answer-sent : (a : ProviderAnswer) → sent radio (isSending a) (providerSends p file a) ≡ queueOf (replied r a)
+    answer-sent (PA.Running reply) = reply-sent reply
+    answer-sent PA.Complete = refl
+    answer-sent (PA.Deactivated scq) = refl
+    answer-sent (PA.FileRejected afq) = refl
+    answer-sent (PA.Refused cause mirror) = refl
+    answer-sent (PA.Err e) = refl
+
+  -- what the Receiver's does: it sends nothing, or there is no rest
+  data Apart (rest : Queue) (a : ReceiverAnswer) : Type 0 where
+    silent : receiverSends a ≡ [] → Apart rest a
+    last : queueOf rest ≡ [] → Apart rest a
+
+  asked-sent : (rest : Queue) (a : ReceiverAnswer) → Apart rest a → queueOf rest ++ map (untouched byReceiver) (receiverSends a) ≡ queueOf (asked rest a)
+  asked-sent rest RA.Running h = append-nil (queueOf rest)
+  asked-sent rest (RA.Send f) (silent e) = absurd (cons-ne-nil _ _ e)
+  asked-sent rest (RA.Send f) (last e) = rw e
+  asked-sent rest (RA.Complete ack n) (silent e) = absurd (cons-ne-nil _ _ e)
+  asked-sent rest (RA.Complete ack n) (last e) = rw e
+  asked-sent rest (RA.FileNotReady frq) h = append-nil (queueOf rest)
+  asked-sent rest (RA.SectionNotReady nos srq) h = append-nil (queueOf rest)
+  asked-sent rest (RA.FileChecksum ack expected got) (silent e) = absurd (cons-ne-nil _ _ e)
+  asked-sent rest (RA.FileChecksum ack expected got) (last e) = rw e
+  asked-sent rest (RA.UnknownLsq lsq) h = append-nil (queueOf rest)
+  asked-sent rest (RA.Refused cause mirror) h = append-nil (queueOf rest)
+  asked-sent rest (RA.Err e) h = append-nil (queueOf rest)
+
+  -- ---- a frame of a reply is its last, or a segment
+
+  -- for an index past the end
+  abbrev none : Packet
+  none = bare (fileReady p)
+
+  abbrev frameAt : Reply → ℕ → Packet
+  frameAt reply i = getD (replies p file reply) i none
+
+  data Place (reply : Reply) (i : ℕ) : Type 0 where
+    at-end : length (replies p file reply) ≤ suc i → Place reply i
+    within : (nos : Nos) (o : List ℕ) → frameAt reply i .frame ≡ segmentFrame p nos o → Place reply i
+
+  abbrev frameIn : FrameResult → Frame
+  frameIn (F.Ok f) = f
+  frameIn (F.Err e) = fileReady p
+
+  place : fileAgrees p file ≡ true → (reply : Reply) (i : ℕ) → i < length (replies p file reply) → Place reply i
+  unfolding replyFrame sectionFrame when
+  place e Nothing i h = at-end (omega arith)
+  place e FileReady i h = at-end (omega arith)
+  place e (SectionReady nos) i h = at-end (omega arith)
+  place e (FileClose nos) i h = at-end (omega arith)
+  place e (Section nos) i h = by-test (decLt i (segmentCount p file nos))
+    where
+      by-test : Dec (i < segmentCount p file nos) → Place (Section nos) i
+      by-test (yes lt) =
+          within nos (segmentOf p file nos i)
+          (sym (ap frameIn (replies-agree p file (Section nos) e .frame i none h)) ∙ simp (e, lt-ltb i (segmentCount p file nos) lt))
+      by-test (no ge) = at-end (omega (arith, count-is p file (Section nos)))
+
+-- ---- one step
+
+module _ (file damage : List ℕ) (ca count : ℕ) where
+  -- the exchange that a record stands for
+  abbrev pub standsFor : TwoParty → List ℕ → List Noise → List Passing → ProviderAnswer → ReceiverAnswer → Exchange
+  standsFor t store radio ps u v =
+      record {
+        queue = queueOf (t .provider) file (t .queue);
+        provider = t .provider;
+        receiver = t .receiver;
+        store = store;
+        radio = radio;
+        passed = ps;
+        providerSaid = u;
+        receiverSaid = v;
+      }
+
+  -- the Provider is of this file, and both stations have this common address and no originator
+  pub record Fits (t : TwoParty) : Type 0 where
+    pub agrees : fileAgrees (t .provider) file ≡ true
+    pub provider-ca : t .provider .procedure .ca ≡ ca
+    pub provider-org : t .provider .procedure .org ≡ 0
+    pub receiver-ca : t .receiver .procedure .ca ≡ ca
+    pub receiver-org : t .receiver .procedure .org ≡ 0
+
+  -- the exchange after one more frame
+  pub record Next (t : TwoParty) (store : List ℕ) (radio : List Noise) (ps : List Passing) (u : ProviderAnswer) (v : ReceiverAnswer) : Type 0 where
+    pub radio′ : List Noise
+    pub passing : Passing
+    pub u′ : ProviderAnswer
+    pub v′ : ReceiverAnswer
+    pub does : step file (ownHeaders ca) (standsFor t store radio ps u v)
+        ≡ standsFor (advanced t file damage store .party) (advanced t file damage store .store) radio′ (ps ++ (passing ∷ [])) u′ v′
+    pub tuned : Tuned damage count (advanced t file damage store .party .radio) radio′
+    pub fits : Fits (advanced t file damage store .party)
+
+  pub data Sight (t : TwoParty) (store : List ℕ) (radio : List Noise) (ps : List Passing) (u : ProviderAnswer) (v : ReceiverAnswer) : Type 0 where
+    over : queueOf (t .provider) file (t .queue) ≡ [] → isOver t file ≡ true → Sight t store radio ps u v
+    going : (x : Passing) (rest : List Passing) → queueOf (t .provider) file (t .queue) ≡ x ∷ rest → isOver t file ≡ false → Next t store radio ps u v → Sight t store radio ps u v
+
+  module _ (few : count ≤ 255) (unnamed : Unnamed damage count) (p : Provider) (r : Receiver) (w : Radio)
+      (store : List ℕ) (radio : List Noise) (ps : List Passing) (u : ProviderAnswer) (v : ReceiverAnswer)
+      (tuned : Tuned damage count w radio) where
+    abbrev with-queue : Queue → TwoParty
+    with-queue q = record { provider = p; receiver = r; queue = q; radio = w }
+
+    -- the Provider is handed a frame
+    provider-moves : (q : Queue) (x : Passing) (s : ProviderStep)
+        → provided file (standsFor (with-queue q) store radio ps u v) x [] s
+        ≡ standsFor (afterProvider (with-queue q) damage s) store (sendingsLeft (isSending (s .answer)) radio) (ps ++ (x ∷ [])) (s .answer) v
+    provider-moves q x s =
+        ap (λ (z : List Passing).
+        record {
+          queue = z;
+          provider = s .provider;
+          receiver = r;
+          store = store;
+          radio = sendingsLeft (isSending (s .answer)) radio;
+          passed = ps ++ (x ∷ []);
+          providerSaid = s .answer;
+          receiverSaid = v;
+        }) (answer-sent (s .provider) file damage count w radio tuned (s .answer))
+
+    still-tuned : (b : Bool) → Tuned damage count (when b (afterSending damage w) w) (sendingsLeft b radio)
+    unfolding when
+    still-tuned true = tuned-next damage count few unnamed w radio tuned
+    still-tuned false = tuned
+
+    asks : (f : Frame) → Fits (with-queue (Q.Receiver f)) → Next (with-queue (Q.Receiver f)) store radio ps u v
+    unfolding advanced
+    asks f fits =
+        let s : ProviderStep = provide p file (headerBy (r .procedure) f) U.Nothing (D.Frame f) [] in
+        let same : s .provider .procedure ≡ p .procedure = station-same p file (headerBy (r .procedure) f) U.Nothing (D.Frame f) [] in
+        record {
+          radio′ = sendingsLeft (isSending (s .answer)) radio;
+          passing = untouched byReceiver (bare f);
+          u′ = s .answer;
+          v′ = v;
+          does = rw (← (fits .receiver-ca), ← (fits .receiver-org)) (provider-moves (Q.Receiver f) (untouched byReceiver (bare f)) s);
+          tuned = still-tuned (isSending (s .answer));
+          fits =
+              record {
+                agrees = agreement-same p file (headerBy (r .procedure) f) U.Nothing (D.Frame f) [] ∙ fits .agrees;
+                provider-ca = ap (λ (z : FileTransferProcedure). z .ca) same ∙ fits .provider-ca;
+                provider-org = ap (λ (z : FileTransferProcedure). z .org) same ∙ fits .provider-org;
+                receiver-ca = fits .receiver-ca;
+                receiver-org = fits .receiver-org;
+              };
+        }
+
+    -- the Receiver is
+    receiver-moves : (q rest : Queue) (x : Passing) (o : Outcome) → Apart p file rest (o .step .answer)
+        → taken (standsFor (with-queue q) store radio ps u v) x (queueOf p file rest) o
+        ≡ standsFor (afterReceiver (with-queue q) rest o .party) (afterReceiver (with-queue q) rest o .store) radio (ps ++ (x ∷ [])) u (o .step .answer)
+    receiver-moves q rest x o apart =
+        ap (λ (z : List Passing).
+        record {
+          queue = z;
+          provider = p;
+          receiver = o .step .receiver;
+          store = o .store;
+          radio = radio;
+          passed = ps ++ (x ∷ []);
+          providerSaid = u;
+          receiverSaid = o .step .answer;
+        }) (asked-sent p file rest (o .step .answer) apart)
+
+    module _ (reply : Reply) (i : ℕ) (d : Bool) where
+      -- the rest of the reply, from its frame i on
+      abbrev replying : TwoParty
+      replying = with-queue (Q.Provider reply i d)
+
+      abbrev rest : Queue
+      rest = Q.Provider reply (i + 1) d
+
+      abbrev x : Packet
+      x = frameAt p file reply i
+
+      abbrev outcome : Outcome
+      outcome = receive r store (headerOf ca 0 (x .frame)) U.Nothing (D.Frame (x .frame)) (arriving d i (x .payload))
+
+      apart : Place p file reply i → Apart p file rest (outcome .step .answer)
+      apart (at-end h) = last (told-past d (i + 1) (replies p file reply) (omega arith))
+      apart (within nos o is) = silent (rw is (segment-silent r store (arriving d i (x .payload)) _ _ _ _ _))
+
+      module _ (fits : Fits replying) (h : i < length (replies p file reply)) where
+        frame-is : replyFrame p file reply i ≡ F.Ok (x .frame)
+        frame-is = replies-agree p file reply (fits .agrees) .frame i (none p file) h
+
+        payload-is : replyPayload p file reply i ≡ x .payload
+        unfolding replyPayload when
+        payload-is = simp (fits .agrees) (replies-agree p file reply (fits .agrees) .payload i (none p file) h)
+
+        first-is : queueOf p file (Q.Provider reply i d) ≡ passingAt d i x ∷ queueOf p file rest
+        first-is = told-at d i (replies p file reply) (none p file) h ∙ rw (add-one i)
+
+        moves : advanced replying file damage store ≡ afterReceiver replying rest outcome
+        unfolding advanced
+        moves = rw (frame-is, payload-is, fits .provider-ca, fits .provider-org)
+
+        tells : Next replying store radio ps u v
+        tells =
+            record {
+              radio′ = radio;
+              passing = passingAt d i x;
+              u′ = u;
+              v′ = outcome .step .answer;
+              does =
+                  rw moves
+                  (ap (λ (z : List Passing). stepOn file (ownHeaders ca) (standsFor replying store radio ps u v) z) first-is
+                  ∙ receiver-moves (Q.Provider reply i d) rest (passingAt d i x) outcome (apart (place p file (fits .agrees) reply i h)));
+              tuned = rw moves tuned;
+              fits =
+                  rw moves
+                  (record {
+                    agrees = fits .agrees;
+                    provider-ca = fits .provider-ca;
+                    provider-org = fits .provider-org;
+                    receiver-ca = ap (λ (z : FileTransferProcedure). z .ca) (receive-stays r store (headerOf ca 0 (x .frame)) U.Nothing (D.Frame (x .frame)) (arriving d i (x .payload))) ∙ fits .receiver-ca;
+                    receiver-org = ap (λ (z : FileTransferProcedure). z .org) (receive-stays r store (headerOf ca 0 (x .frame)) U.Nothing (D.Frame (x .frame)) (arriving d i (x .payload))) ∙ fits .receiver-org;
+                  });
+            }
+
+      reply-sight : Fits replying → Dec (i < length (replies p file reply)) → Sight replying store radio ps u v
+      unfolding isOver nextFrame when
+      reply-sight fits (yes lt) =
+          going (passingAt d i x) (queueOf p file rest) (first-is fits lt) (simp (fits .agrees, frame-is fits lt)) (tells fits lt)
+      reply-sight fits (no ge) =
+          over (told-past d i (replies p file reply) (omega arith)) (simp (fits .agrees, replies-agree p file reply (fits .agrees) .past i (omega arith)))
+
+    sight-of : (q : Queue) → Fits (with-queue q) → Sight (with-queue q) store radio ps u v
+    unfolding isOver nextFrame when
+    sight-of Q.Empty fits = over refl (simp (fits .agrees))
+    sight-of (Q.Receiver f) fits = going (untouched byReceiver (bare f)) [] refl (simp (fits .agrees)) (asks f fits)
+    sight-of (Q.Provider reply i d) fits = reply-sight reply i d fits (decLt i (length (replies p file reply)))
+
+  -- the Receiver's start
+  pub start-stands : (p : Provider) (r : Receiver) (store : List ℕ) (radio : List Noise)
+      → begun p r store radio ≡ standsFor (startedParty p damage (started r store)) store radio [] (PA.Running Nothing) (started r store .answer)
+  start-stands p r store radio =
+      ap (λ (z : List Passing).
+      record {
+        queue = z;
+        provider = p;
+        receiver = started r store .receiver;
+        store = store;
+        radio = radio;
+        passed = [];
+        providerSaid = PA.Running Nothing;
+        receiverSaid = started r store .answer;
+      }) (asked-sent p file Q.Empty (started r store .answer) (last refl))
+
+  -- a record that stands for an exchange: no frame is left of both, or both go on by one
+  pub sight : (few : count ≤ 255) (unnamed : Unnamed damage count) (t : TwoParty) (store : List ℕ) (radio : List Noise) (ps : List Passing) (u : ProviderAnswer) (v : ReceiverAnswer)
+      → Tuned damage count (t .radio) radio → Fits t → Sight t store radio ps u v
+  sight few unnamed t store radio ps u v tuned fits = sight-of few unnamed (t .provider) (t .receiver) (t .radio) store radio ps u v tuned (t .queue) fits

@@ -1,0 +1,230 @@
+-- What no frame changes of either machine, and that a segment is answered with no frame.
+use Prim.Native.Nat.{ℕ}
+use mathlib.Core.Path.{_≡_, refl}
+use mathlib.Core.Bool.{Bool, true, false}
+use mathlib.Core.List.{List, []}
+use Rattle.laws.specs.When.{when}
+use Rattle.asdu.specs.declared.file.Nof.{Nof}
+use Rattle.asdu.specs.declared.file.Nos.{Nos}
+use Rattle.asdu.specs.declared.file.Los.{Los}
+use Rattle.asdu.specs.declared.file.Lsq.{Lsq}
+use Rattle.asdu.specs.declared.file.Chs.{Chs}
+use Rattle.asdu.specs.declared.file.Scq.{Scq}
+use Rattle.asdu.specs.declared.file.Afq.{Afq}
+use Rattle.asdu.specs.declared.header.Header.{Header}
+use Rattle.asdu.specs.declared.header.UnknownField.{UnknownField}
+use Rattle.asdu.specs.declared.header.UnknownField.the-variants as U
+use Rattle.asdu.specs.declared.header.Unspecified.{Unspecified}
+use Rattle.asdu.specs.declared.error.FtError.the-variants as E
+use Rattle.frame.specs.declared.Frame.{Frame}
+use Rattle.frame.specs.declared.Frame.the-variants as F
+use Rattle.ft.specs.Admission.{unspecified, mirrored, notServed, unservedBy, unserved, admitFrame, onAsdu, answered, matched, onAnswer}
+use Rattle.ft.specs.declared.direction.Role.{Role}
+use Rattle.ft.specs.declared.direction.Role.the-variants.{Controlling, Controlled}
+use Rattle.ft.specs.declared.direction.Selection.{Selection}
+use Rattle.ft.specs.declared.procedure.FileTransferProcedure.{FileTransferProcedure}
+use Rattle.ft.specs.declared.admit.Received.{Received}
+use Rattle.ft.specs.declared.admit.Received.the-variants as D
+use Rattle.ft.specs.declared.admit.Reaction.{Reaction}
+use Rattle.ft.specs.declared.admit.Reaction.the-variants as A
+use Rattle.provide.specs.Record.{fileAgrees, ended, counted}
+use Rattle.provide.specs.Requests.{onSc, onAck, onOurs, onRequest, provideAdmitted, provide}
+use Rattle.provide.specs.declared.Provider.{Provider}
+use Rattle.provide.specs.declared.ProviderStep.{ProviderStep}
+use Rattle.receive.specs.Record.{awaited, stepped}
+use Rattle.receive.specs.Answers.{Outcome, leaving, onFileReady, onSectionReady, onSectionClose, onFileClose, onClose, onSegment, onAnswered, receiveAdmitted, receive}
+use Rattle.receive.specs.declared.Receiver.{Receiver}
+use Rattle.receive.specs.declared.ReceiverAnswer.the-variants as RA
+use Rattle.receive.specs.declared.ReceiverStep.{ReceiverStep}
+use Rattle.exchange.specs.Exchange.{receiverSends}
+
+-- ---- the Provider: what ending and counting leave as it is, every frame does
+
+module _ {B : Type 0} (g : Provider → B) (p : Provider) (over : g (ended p) ≡ g p) (more : g (counted p) ≡ g p) where
+  record Same (s : ProviderStep) : Type 0 where
+    same : g (s .provider) ≡ g p
+
+  either : (b : Bool) (x y : ProviderStep) → Same x → Same y → Same (when b x y)
+  unfolding when
+  either true x y h k = h
+  either false x y h k = k
+
+  kept : (s : ProviderStep) → g (s .provider) ≡ g p → Same s
+  kept s e = record { same = e }
+
+  sc-same : (nos : Nos) (q : Scq) → Same (onSc p nos q)
+  unfolding onSc
+  sc-same nos q = either _ _ _ (kept _ refl) (either _ _ _ (kept _ refl) (either _ _ _ (kept _ refl) (either _ _ _ (kept _ refl) (kept _ over))))
+
+  ack-same : (nos : Nos) (q : Afq) → Same (onAck p nos q)
+  unfolding onAck
+  ack-same nos q = either _ _ _ (kept _ refl) (either _ _ _ (kept _ refl) (either _ _ _ (kept _ over) (kept _ over)))
+
+  ours-same : (f : Frame) → Same (onOurs p f)
+  ours-same (F.FileReady ioa nof lof frq) = kept _ refl
+  ours-same (F.SectionReady ioa nof nos lof srq) = kept _ refl
+  ours-same (F.Sc ioa nof nos scq) = sc-same nos scq
+  ours-same (F.LastSection ioa nof nos lsq chs) = kept _ refl
+  ours-same (F.Ack ioa nof nos afq) = ack-same nos afq
+  ours-same (F.Segment ioa nof nos los) = kept _ refl
+  ours-same (F.Directory ioa cause) = kept _ refl
+  ours-same (F.QueryLog ioa nof start stop) = kept _ refl
+
+  admitted-same : (x : Reaction) → Same (provideAdmitted p x)
+  unfolding onRequest
+  admitted-same (A.Requested f) = either _ _ _ (ours-same f) (kept _ more)
+  admitted-same (A.Answered f) = kept _ refl
+  admitted-same (A.Refused cause mirror) = kept _ over
+  admitted-same (A.Discard why) = kept _ refl
+  admitted-same A.Other = kept _ refl
+  admitted-same (A.Err e) = kept _ refl
+
+  pub provide-same : (file : List ℕ) (h : Header) (unknown : UnknownField) (received : Received) (beside : List ℕ)
+      → g (provide p file h unknown received beside .provider) ≡ g p
+  unfolding provide
+  provide-same file h unknown received beside =
+      let s : Same (provide p file h unknown received beside) =
+      either _ _ _ (either _ _ _ (kept _ refl) (admitted-same (onAsdu (p .procedure) h unknown received beside))) (kept _ refl) in
+      s .same
+
+-- the station, and the agreement with the file
+pub station-same : (p : Provider) (file : List ℕ) (h : Header) (unknown : UnknownField) (received : Received) (beside : List ℕ)
+    → provide p file h unknown received beside .provider .procedure ≡ p .procedure
+station-same p = provide-same (λ (q : Provider). q .procedure) p refl refl
+
+pub agreement-same : (p : Provider) (file : List ℕ) (h : Header) (unknown : UnknownField) (received : Received) (beside : List ℕ)
+    → fileAgrees (provide p file h unknown received beside .provider) file ≡ fileAgrees p file
+unfolding fileAgrees
+agreement-same p file = provide-same (λ (q : Provider). fileAgrees q file) p refl refl file
+
+-- ---- the Receiver: its station stays
+
+module _ (r : Receiver) where
+  record Stays (s : ReceiverStep) : Type 0 where
+    stays : s .receiver .procedure ≡ r .procedure
+
+  either-step : (b : Bool) (x y : ReceiverStep) → Stays x → Stays y → Stays (when b x y)
+  unfolding when
+  either-step true x y h k = h
+  either-step false x y h k = k
+
+  as-it-was : (s : ReceiverStep) → s .receiver .procedure ≡ r .procedure → Stays s
+  as-it-was s e = record { stays = e }
+
+  close-stays : (store : List ℕ) (nos : Nos) (lsq : Lsq) (chs : Chs) → Stays (onClose r store nos lsq chs)
+  unfolding onClose onSectionClose onFileClose
+  close-stays store nos lsq chs =
+      either-step _ _ _ (either-step _ _ _ (as-it-was _ refl) (as-it-was _ refl))
+      (either-step _ _ _ (either-step _ _ _ (as-it-was _ refl) (as-it-was _ refl)) (as-it-was _ refl))
+
+  record StaysAfter (o : Outcome) : Type 0 where
+    after : Stays (o .step)
+
+  either-outcome : (b : Bool) (x y : Outcome) → StaysAfter x → StaysAfter y → StaysAfter (when b x y)
+  unfolding when
+  either-outcome true x y h k = h
+  either-outcome false x y h k = k
+
+  with-store : (o : Outcome) → Stays (o .step) → StaysAfter o
+  with-store o h = record { after = h }
+
+  unchanged : (o : Outcome) → o .step .receiver .procedure ≡ r .procedure → StaysAfter o
+  unchanged o e = with-store o (as-it-was _ e)
+
+  answered-stays : (store payload : List ℕ) (f : Frame) → StaysAfter (onAnswered r store payload f)
+  unfolding onFileReady onSectionReady onSegment
+  answered-stays store payload (F.FileReady ioa nof lof frq) = with-store _ (either-step _ _ _ (as-it-was _ refl) (as-it-was _ refl))
+  answered-stays store payload (F.SectionReady ioa nof nos lof srq) = with-store _ (either-step _ _ _ (as-it-was _ refl) (as-it-was _ refl))
+  answered-stays store payload (F.Sc ioa nof nos scq) = unchanged _ refl
+  answered-stays store payload (F.LastSection ioa nof nos lsq chs) = with-store _ (close-stays store nos lsq chs)
+  answered-stays store payload (F.Ack ioa nof nos afq) = unchanged _ refl
+  answered-stays store payload (F.Segment ioa nof nos los) = either-outcome _ _ _ (unchanged _ refl) (unchanged _ refl)
+  answered-stays store payload (F.Directory ioa cause) = unchanged _ refl
+  answered-stays store payload (F.QueryLog ioa nof start stop) = unchanged _ refl
+
+  reaction-stays : (store payload : List ℕ) (x : Reaction) → StaysAfter (receiveAdmitted r store payload x)
+  reaction-stays store payload (A.Requested f) = unchanged _ refl
+  reaction-stays store payload (A.Answered f) = answered-stays store payload f
+  reaction-stays store payload (A.Refused cause mirror) = unchanged _ refl
+  reaction-stays store payload (A.Discard why) = unchanged _ refl
+  reaction-stays store payload A.Other = unchanged _ refl
+  reaction-stays store payload (A.Err e) = unchanged _ refl
+
+  pub receive-stays : (store : List ℕ) (h : Header) (unknown : UnknownField) (received : Received) (beside : List ℕ)
+      → receive r store h unknown received beside .step .receiver .procedure ≡ r .procedure
+  unfolding receive
+  receive-stays store h unknown received beside =
+      let o : StaysAfter (receive r store h unknown received beside) =
+      either-outcome _ _ _ (either-outcome _ _ _ (unchanged _ refl) (reaction-stays store beside (onAnswer (r .procedure) h unknown received beside (awaited r))))
+      (unchanged (leaving store (stepped r (RA.Err E.RecordMismatch))) refl) in
+      o .after .stays
+
+-- ---- a segment is answered with no frame
+
+module _ (r : Receiver) (store beside : List ℕ) where
+  record Silent (o : Outcome) : Type 0 where
+    silent : receiverSends (o .step .answer) ≡ []
+
+  either-silent : (b : Bool) (x y : Outcome) → Silent x → Silent y → Silent (when b x y)
+  unfolding when
+  either-silent true x y h k = h
+  either-silent false x y h k = k
+
+  says-nothing : (o : Outcome) → receiverSends (o .step .answer) ≡ [] → Silent o
+  says-nothing o e = record { silent = e }
+
+  -- a reaction after which the Receiver sends nothing
+  record Quiet (x : Reaction) : Type 0 where
+    quiet : Silent (receiveAdmitted r store beside x)
+
+  either-quiet : (b : Bool) (x y : Reaction) → Quiet x → Quiet y → Quiet (when b x y)
+  unfolding when
+  either-quiet true x y h k = h
+  either-quiet false x y h k = k
+
+  leaves : (x : Reaction) → receiverSends (receiveAdmitted r store beside x .step .answer) ≡ [] → Quiet x
+  leaves x e = record { quiet = says-nothing _ e }
+
+  unspecified-quiet : (role : Role) (which : Unspecified) → Quiet (unspecified role which)
+  unspecified-quiet Controlled which = leaves _ refl
+  unspecified-quiet Controlling which = leaves _ refl
+
+  unserved-quiet : (role : Role) (s : Selection) → Quiet (unservedBy role s)
+  unfolding notServed
+  unserved-quiet Controlled s = leaves _ refl
+  unserved-quiet Controlling s = either-quiet _ _ _ (leaves _ refl) (leaves _ refl)
+
+  matched-quiet : (sent : Frame) (x : Reaction) → Quiet x → Quiet (matched sent x)
+  unfolding answered
+  matched-quiet sent (A.Answered f) q = either-quiet _ _ _ q (leaves _ refl)
+  matched-quiet sent (A.Requested f) q = q
+  matched-quiet sent (A.Refused cause mirror) q = q
+  matched-quiet sent (A.Discard why) q = q
+  matched-quiet sent A.Other q = q
+  matched-quiet sent (A.Err e) q = q
+
+  module _ (ioa : ℕ) (nof : Nof) (nos : Nos) (los : Los) (h : Header) where
+    abbrev segment : Frame
+    segment = F.Segment ioa nof nos los
+
+    segment-quiet : Quiet (A.Answered segment)
+    unfolding onSegment
+    segment-quiet = record { quiet = either-silent _ _ _ (says-nothing _ refl) (says-nothing _ refl) }
+
+    frame-quiet : (p : FileTransferProcedure) → Quiet (admitFrame p h segment beside)
+    unfolding admitFrame unserved
+    frame-quiet p =
+        either-quiet _ _ _ (either-quiet _ _ _ (either-quiet _ _ _ (leaves _ refl) segment-quiet) (unserved-quiet (p .role) (p .selection))) (leaves _ refl)
+
+    admission-quiet : (p : FileTransferProcedure) → Quiet (onAsdu p h U.Nothing (D.Frame segment) beside)
+    unfolding onAsdu mirrored
+    admission-quiet p =
+        either-quiet _ _ _ (either-quiet _ _ _ (either-quiet _ _ _ (either-quiet _ _ _ (either-quiet _ _ _ (leaves _ refl) (leaves _ refl))
+        (either-quiet _ _ _ (unspecified-quiet (p .role) _) (frame-quiet p))) (leaves _ refl)) (leaves _ refl)) (leaves _ refl)
+
+    pub segment-silent : receiverSends (receive r store h U.Nothing (D.Frame segment) beside .step .answer) ≡ []
+    unfolding receive onAnswer
+    segment-silent =
+        let o : Silent (receive r store h U.Nothing (D.Frame segment) beside) =
+        either-silent _ _ _ (either-silent _ _ _ (says-nothing _ refl) (matched-quiet (awaited r) _ (admission-quiet (r .procedure)) .quiet)) (says-nothing _ refl) in
+        o .silent

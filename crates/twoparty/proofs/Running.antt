@@ -1,0 +1,141 @@
+-- The run is the exchange: frame by frame over the record, it ends as the exchange does after as many steps as the budget.
+use Prim.Native.Nat.{ℕ, zero, suc, _+_, _≤_}
+use mathlib.Core.Path.{_≡_, refl, sym, ap, _∙_}
+use mathlib.Core.Bool.{Bool, true, false}
+use mathlib.Core.List.{List, [], _∷_, _++_}
+use native.Mathlib.Omega.{arith}
+use lib.Dec.{leb}
+use lib.ListN.{length, length-append}
+use borrow.Author.Tests.{leb-true}
+use Rattle.laws.specs.When.{when}
+use Rattle.asdu.specs.Sizes.{sizesRight, maxIoa}
+use Rattle.asdu.specs.declared.error.FtError.the-variants as E
+use Rattle.ft.specs.Directions.{otherRole}
+use Rattle.ft.specs.Procedure.{addressRight}
+use Rattle.ft.specs.Building.{addressed, built}
+use Rattle.ft.specs.declared.procedure.FileTransferProcedure.{FileTransferProcedure}
+use Rattle.ft.specs.declared.build.AsduResult.{AsduResult}
+use Rattle.ft.specs.declared.build.AsduResult.the-variants as A
+use Rattle.provide.specs.Sections.{sectionLength, sectionCount}
+use Rattle.provide.specs.Record.{freshProvider, providerMade}
+use Rattle.provide.specs.declared.ProviderAnswer.{ProviderAnswer}
+use Rattle.provide.specs.declared.ProviderResult.the-variants as PM
+use Rattle.provide.specs.declared.Provider.{Provider}
+use Rattle.provide.proofs.Making.{made, made-agrees}
+use Rattle.provide.proofs.SectionLaws.{some-section, few-sections}
+use Rattle.receive.specs.Record.{freshReceiver, receiverMade, storeAgrees, select, stepped, startedWith, started}
+use Rattle.receive.specs.declared.Receiver.{Receiver}
+use Rattle.receive.specs.declared.ReceiverAnswer.{ReceiverAnswer}
+use Rattle.receive.specs.declared.ReceiverAnswer.the-variants as RA
+use Rattle.receive.specs.declared.ReceiverResult.the-variants as RM
+use Rattle.exchange.specs.Exchange.{Passing, Noise, Exchange, run, begun}
+use Rattle.exchange.specs.Transfer.{inOrder}
+use Rattle.exchange.specs.Damaging.{scriptRadio}
+use Rattle.exchange.proofs.Budget.{stays}
+use Rattle.twoparty.specs.Party.{stationOf, startedParty, firstSection, allHaveOctets, advanced, Ran, isOver, whole, ranOn}
+use Rattle.twoparty.specs.Run.{ownHeaders, exchangeOf, ending}
+use Rattle.twoparty.specs.declared.Settings.{Settings}
+use Rattle.twoparty.specs.declared.TwoParty.{TwoParty}
+use Rattle.twoparty.proofs.Tuning.{Unnamed, Tuned, tuned-first}
+use Rattle.twoparty.proofs.Following.{standsFor, Fits, Next, Sight, over, going, sight, start-stands}
+use Rattle.twoparty.proofs.Named.{unnamed}
+
+module _ (file damage : List ℕ) (ca count : ℕ) (few : count ≤ 255) (none : Unnamed damage count) where
+  -- with this budget the record ends as its exchange
+  unfoldable pub Ends : ℕ → Type 0
+  Ends budget =
+      (t : TwoParty) (store : List ℕ) (radio : List Noise) (ps : List Passing) (u : ProviderAnswer) (v : ReceiverAnswer)
+      → Tuned damage count (t .radio) radio → Fits file damage ca count t
+      → ranOn budget (length ps) t file damage store ≡ ending (run file (ownHeaders ca) budget (standsFor file damage ca count t store radio ps u v))
+
+  spends : Ends zero
+  unfolding Ends when
+  spends t store radio ps u v tuned fits = by-sight (sight file damage ca count few none t store radio ps u v tuned fits)
+    where
+      by-sight : Sight file damage ca count t store radio ps u v → ranOn zero (length ps) t file damage store ≡ ending (standsFor file damage ca count t store radio ps u v)
+      by-sight (over empty is) = rw (is, empty)
+      by-sight (going x rest more is next) = rw (is, more)
+
+  goes-on : (budget : ℕ) → Ends budget → Ends (suc budget)
+  unfolding Ends when
+  goes-on budget later t store radio ps u v tuned fits = by-sight (sight file damage ca count few none t store radio ps u v tuned fits)
+    where
+      by-sight : Sight file damage ca count t store radio ps u v
+          → ranOn (suc budget) (length ps) t file damage store ≡ ending (run file (ownHeaders ca) (suc budget) (standsFor file damage ca count t store radio ps u v))
+      by-sight (over empty is) = rw (is, stays file (ownHeaders ca) (suc budget) (standsFor file damage ca count t store radio ps u v) empty, empty)
+      by-sight (going x rest more is next) =
+          let one : length (ps ++ (next .passing ∷ [])) ≡ length ps + 1 = length-append ps (next .passing ∷ []) in
+          rw is
+          (ap (λ (n : ℕ). ranOn budget n (advanced t file damage store .party) file damage (advanced t file damage store .store)) (sym one)
+          ∙ later (advanced t file damage store .party) (advanced t file damage store .store) (next .radio′) (ps ++ (next .passing ∷ [])) (next .u′) (next .v′) (next .tuned) (next .fits)
+          ∙ ap (λ (e : Exchange). ending (run file (ownHeaders ca) budget e)) (sym (next .does)))
+
+  pub ran-is : (budget : ℕ) → Ends budget
+  ran-is zero = spends
+  ran-is (suc budget) = goes-on budget (ran-is budget)
+
+-- ---- from the start
+
+-- a start leaves the station as it is
+startedWith-stays : (r : Receiver) (a : AsduResult) → startedWith r a .receiver .procedure ≡ r .procedure
+startedWith-stays r (A.Ok a) = refl
+startedWith-stays r (A.Err e) = refl
+
+start-stays : (r : Receiver) (store : List ℕ) → started r store .receiver .procedure ≡ r .procedure
+unfolding started when
+start-stays r store = by-test (storeAgrees r store)
+  where
+    by-test : (b : Bool) → when b (startedWith r (built (r .procedure) (select r) [])) (stepped r (RA.Err E.RecordMismatch)) .receiver .procedure ≡ r .procedure
+    by-test true = startedWith-stays r (built (r .procedure) (select r) [])
+    by-test false = refl
+
+module _ (s : Settings) (file damage store : List ℕ) where
+  -- what the tests before any frame accept
+  pub record Accepted : Type 0 where
+    pub widths : sizesRight (s .sizes) ≡ true
+    pub addresses : addressed (s .sizes) (s .«common_address») 0 (s .ioa) ≡ true
+    pub short : leb (length file) 0xFFFFFF ≡ true
+    pub named : allHaveOctets (sectionLength (length file)) file damage ≡ true
+    pub room : leb (length file) (length store) ≡ true
+
+  abbrev pub providing : Provider
+  providing = freshProvider (stationOf s (s .role)) (s .ioa) (s .nof) (length file)
+
+  abbrev pub receiving : Receiver
+  receiving = freshReceiver (stationOf s (otherRole (s .role))) (s .ioa) (s .nof)
+
+  -- the record before any frame
+  abbrev pub beginning : TwoParty
+  beginning = startedParty providing damage (started receiving store)
+
+  module _ (a : Accepted) where
+    pub provider-made : providerMade (stationOf s (s .role)) (s .ioa) (s .nof) (length file) ≡ PM.Ok providing
+    unfolding providerMade when
+    provider-made = simp (a .widths, a .addresses, a .short)
+
+    pub receiver-made : receiverMade (stationOf s (otherRole (s .role))) (s .ioa) (s .nof) ≡ RM.Ok receiving
+    unfolding receiverMade when
+    receiver-made = simp (a .widths, a .addresses)
+
+    begins-fit : Fits file damage (s .«common_address») (sectionCount (length file)) beginning
+    begins-fit =
+        record {
+          agrees = made-agrees (stationOf s (s .role)) (s .ioa) (s .nof) file providing (made (stationOf s (s .role)) (s .ioa) (s .nof) (length file) providing provider-made);
+          provider-ca = refl;
+          provider-org = refl;
+          receiver-ca = ap (λ (z : FileTransferProcedure). z .ca) (start-stays receiving store);
+          receiver-org = ap (λ (z : FileTransferProcedure). z .org) (start-stays receiving store);
+        }
+
+    first-tuned : (n : ℕ) → sectionCount (length file) ≡ n → Tuned damage (sectionCount (length file)) (firstSection damage) (inOrder (scriptRadio damage 1 (sectionCount (length file))))
+    first-tuned zero e = absurd (omega (arith, some-section (length file)))
+    first-tuned (suc k) e = tuned-first damage (sectionCount (length file)) k e
+
+    -- the run over the record is the exchange
+    pub run-is : (budget : ℕ) → ranOn budget 0 beginning file damage store ≡ ending (exchangeOf s file damage store budget)
+    unfolding Ends
+    run-is budget =
+        ran-is file damage (s .«common_address») (sectionCount (length file)) (few-sections (length file)) (unnamed file damage (a .named)) budget
+        beginning store (inOrder (scriptRadio damage 1 (sectionCount (length file)))) [] _ _ (first-tuned (sectionCount (length file)) refl) begins-fit
+        ∙ ap (λ (e : Exchange). ending (run file (ownHeaders (s .«common_address»)) budget e))
+        (sym (start-stands file damage (s .«common_address») (sectionCount (length file)) providing receiving store (inOrder (scriptRadio damage 1 (sectionCount (length file))))))

@@ -1,0 +1,60 @@
+-- The two-party run (document 01, A transfer script): by its definition it is the exchange with no segment lost, both senders' counts added.
+use Prim.Native.Nat.{ℕ, _+_, _*_}
+use mathlib.Core.List.{List, [], _∷_}
+use lib.Dec.{leb}
+use lib.ListN.{length}
+use Rattle.laws.specs.When.{unless}
+use Rattle.asdu.specs.Sizes.{sizesRight, segmentLimit}
+use Rattle.asdu.specs.declared.error.FtError.{FtError}
+use Rattle.asdu.specs.declared.error.FtError.the-variants as E
+use Rattle.ft.specs.Directions.{otherRole}
+use Rattle.ft.specs.Building.{addressed, headerOf}
+use Rattle.provide.specs.Sections.{sectionLength, sectionCount, sections}
+use Rattle.provide.specs.Record.{freshProvider}
+use Rattle.receive.specs.Record.{freshReceiver}
+use Rattle.exchange.specs.Exchange.{Passing, Exchange, Headers, run, begun}
+use Rattle.exchange.specs.Transfer.{Sendings, inOrder, sendingFrames, damagedSendings}
+use Rattle.exchange.specs.Damaging.{scriptRadio}
+use Rattle.twoparty.specs.Party.{stationOf, allHaveOctets, Ran}
+use Rattle.twoparty.specs.declared.Settings.{Settings}
+use Rattle.twoparty.specs.declared.RunResult.{RunResult}
+use Rattle.twoparty.specs.declared.RunResult.the-variants.{Whole, Spent, Err}
+
+-- both stations have this common address and no originator
+abbrev pub ownHeaders : ℕ → Headers
+ownHeaders ca before x = headerOf ca 0 (x .packet .frame)
+
+-- the exchange of these settings, after so many frames
+abbrev pub exchangeOf : Settings → List ℕ → List ℕ → List ℕ → ℕ → Exchange
+exchangeOf s file damage store frames =
+    run file (ownHeaders (s .«common_address»)) frames
+    (begun (freshProvider (stationOf s (s .role)) (s .ioa) (s .nof) (length file)) (freshReceiver (stationOf s (otherRole (s .role))) (s .ioa) (s .nof)) store
+    (inOrder (scriptRadio damage 1 (sectionCount (length file)))))
+
+-- whole where no frame is left, with the octets accepted; else the budget is spent. The frames are those passed
+abbrev pub endingBy : Exchange → List Passing → RunResult
+endingBy e [] = Whole (e .receiver .kept) (length (e .passed))
+endingBy e (x ∷ queue) = Spent (length (e .passed))
+
+abbrev pub ending : Exchange → Ran
+ending e = record { result = endingBy e (e .queue); store = e .store }
+
+abbrev pub refused : List ℕ → FtError → Ran
+refused store e = record { result = Err e; store = store }
+
+-- before any frame 2, 3, 1, 11 where damage names a section with no octets, 24 where the store is shorter than the file
+unfoldable pub twoParty : Settings → List ℕ → List ℕ → List ℕ → ℕ → Ran
+twoParty s file damage store budget =
+    unless (sizesRight (s .sizes)) (refused store E.InvalidAddressSizes)
+    (unless (addressed (s .sizes) (s .«common_address») 0 (s .ioa)) (refused store E.AddressOutOfRange)
+    (unless (leb (length file) 0xFFFFFF) (refused store E.FileTooLong)
+    (unless (allHaveOctets (sectionLength (length file)) file damage) (refused store E.ScriptMisshapen)
+    (unless (leb (length file) (length store)) (refused store E.StoreFull)
+    (ending (exchangeOf s file damage store budget))))))
+
+-- how many frames a script takes: those of the Provider and those of the Receiver, by the two-party theorem's counts
+unfoldable pub scriptFrames : Settings → List ℕ → List ℕ → ℕ
+scriptFrames s file damage =
+    let radio : List Sendings = scriptRadio damage 1 (sectionCount (length file)) in
+    2 + sectionCount (length file) + sendingFrames (segmentLimit (s .sizes)) (sections file) radio
+    + (3 + 2 * sectionCount (length file) + damagedSendings radio)
