@@ -1,0 +1,247 @@
+-- The two-party run, frame by frame, as its record keeps it: the queue is one frame of the Receiver's, or the rest of one reply of the Provider's.
+use Prim.Native.Nat.{ℕ, zero, suc, _+_, _-_}
+use mathlib.Core.Bool.{Bool, true, false}
+use mathlib.Core.List.{List, [], _∷_}
+use lib.Dec.{eqb, leb, ltb}
+use lib.ListN.{length}
+use Rattle.laws.specs.When.{when, unless, _and_}
+use Rattle.asdu.specs.declared.header.Header.{Header}
+use Rattle.asdu.specs.declared.header.UnknownField.the-variants as U
+use Rattle.asdu.specs.declared.error.FtError.{FtError}
+use Rattle.asdu.specs.declared.error.FtError.the-variants as E
+use Rattle.frame.specs.declared.Frame.{Frame}
+use Rattle.ft.specs.Directions.{otherRole}
+use Rattle.ft.specs.Building.{headerOf}
+use Rattle.ft.specs.declared.admit.Received.the-variants as D
+use Rattle.ft.specs.declared.direction.Role.{Role}
+use Rattle.ft.specs.declared.direction.Role.the-variants.{Controlling, Controlled}
+use Rattle.ft.specs.declared.direction.Selection.{Selection}
+use Rattle.ft.specs.declared.procedure.FileTransferProcedure.{FileTransferProcedure}
+use Rattle.provide.specs.Sections.{sectionOctets}
+use Rattle.provide.specs.Record.{providerMade, fileAgrees}
+use Rattle.provide.specs.Replies.{replyFrame, replyPayload}
+use Rattle.provide.specs.Requests.{provide}
+use Rattle.provide.specs.declared.Provider.{Provider}
+use Rattle.provide.specs.declared.ProviderStep.{ProviderStep}
+use Rattle.provide.specs.declared.ProviderAnswer.{ProviderAnswer}
+use Rattle.provide.specs.declared.ProviderAnswer.the-variants as P
+use Rattle.provide.specs.declared.ProviderResult.{ProviderResult}
+use Rattle.provide.specs.declared.ProviderResult.the-variants as PM
+use Rattle.provide.specs.declared.Reply.{Reply}
+use Rattle.provide.specs.declared.FrameResult.{FrameResult}
+use Rattle.provide.specs.declared.FrameResult.the-variants as F
+use Rattle.receive.specs.Record.{receiverMade, storeAgrees, started}
+use Rattle.receive.specs.Answers.{Outcome, receive}
+use Rattle.receive.specs.declared.Receiver.{Receiver}
+use Rattle.receive.specs.declared.ReceiverStep.{ReceiverStep}
+use Rattle.receive.specs.declared.ReceiverAnswer.{ReceiverAnswer}
+use Rattle.receive.specs.declared.ReceiverAnswer.the-variants as R
+use Rattle.receive.specs.declared.ReceiverResult.{ReceiverResult}
+use Rattle.receive.specs.declared.ReceiverResult.the-variants as RM
+use Rattle.exchange.specs.Exchange.{isSending}
+use Rattle.exchange.specs.Damaging.{raised, namings}
+use Rattle.twoparty.specs.declared.Settings.{Settings}
+use Rattle.twoparty.specs.declared.Queue.{Queue}
+use Rattle.twoparty.specs.declared.Queue.the-variants as Q
+use Rattle.twoparty.specs.declared.Radio.{Radio}
+use Rattle.twoparty.specs.declared.TwoParty.{TwoParty}
+use Rattle.twoparty.specs.declared.TwoPartyResult.{TwoPartyResult}
+use Rattle.twoparty.specs.declared.TwoPartyResult.the-variants as T
+use Rattle.twoparty.specs.declared.Passing.{Passing}
+use Rattle.twoparty.specs.declared.Passing.the-variants as N
+use Rattle.twoparty.specs.declared.RunResult.{RunResult}
+use Rattle.twoparty.specs.declared.RunResult.the-variants.{Whole, Spent, Err}
+
+-- ---- the radio
+
+-- section `nos` of a file cut into sections of `size` octets has octets
+unfoldable pub hasOctets : ℕ → List ℕ → ℕ → Bool
+hasOctets size file nos = ltb 0 (length (sectionOctets size file nos))
+
+-- each section that is named does: else 11
+abbrev pub allHaveOctets : ℕ → List ℕ → List ℕ → Bool
+allHaveOctets size file [] = true
+allHaveOctets size file (d ∷ ds) = hasOctets size file d and allHaveOctets size file ds
+
+-- before the first sending
+abbrev pub firstSection : List ℕ → Radio
+firstSection damage = record { section = 1; left = namings 1 damage }
+
+-- after a section's intact sending; there are at most 255 sections
+unfoldable pub nextSection : List ℕ → Radio → Radio
+nextSection damage r =
+    when (ltb (r .section) 255) (record { section = r .section + 1; left = namings (r .section + 1) damage })
+    (record { section = r .section; left = 0 })
+
+-- after one more sending
+unfoldable pub afterSending : List ℕ → Radio → Radio
+afterSending damage r = when (ltb 0 (r .left)) (record { section = r .section; left = r .left - 1 }) (nextSection damage r)
+
+-- a segment's payload as it arrives: the first octet of a damaged sending is raised
+unfoldable pub arriving : Bool → ℕ → List ℕ → List ℕ
+arriving damaged i payload = when (damaged and eqb i 0) (raised payload) payload
+
+-- ---- the making
+
+-- the direction in which a Provider of this role sends
+abbrev pub providing : Role → Selection
+providing Controlled = record { monitor = true; control = false }
+providing Controlling = record { monitor = false; control = true }
+
+-- a station of this role in a run
+abbrev pub stationOf : Settings → Role → FileTransferProcedure
+stationOf s role = record { role = role; selection = providing (s .role); ca = s .«common_address»; org = 0; sizes = s .sizes }
+
+-- what the Receiver's answer puts behind the rest of the queue: nothing, or one frame that is then all of it
+abbrev pub asked : Queue → ReceiverAnswer → Queue
+asked rest R.Running = rest
+asked rest (R.Send f) = Q.Receiver f
+asked rest (R.Complete ack n) = Q.Receiver ack
+asked rest (R.FileNotReady frq) = rest
+asked rest (R.SectionNotReady nos srq) = rest
+asked rest (R.FileChecksum ack expected got) = Q.Receiver ack
+asked rest (R.UnknownLsq lsq) = rest
+asked rest (R.Refused cause mirror) = rest
+asked rest (R.Err e) = rest
+
+-- the Receiver's start queues the first frame
+abbrev pub startedParty : Provider → List ℕ → ReceiverStep → TwoParty
+startedParty p damage s = record { provider = p; receiver = s .receiver; queue = asked Q.Empty (s .answer); radio = firstSection damage }
+
+abbrev pub withReceiver : Provider → List ℕ → List ℕ → ReceiverResult → TwoPartyResult
+withReceiver p damage store (RM.Ok r) = T.Ok (startedParty p damage (started r store))
+withReceiver p damage store (RM.Err e) = T.Err e
+
+-- 11 where damage names a section with no octets, then 24 where the store is shorter than the file
+unfoldable pub withProvider : Settings → List ℕ → List ℕ → List ℕ → Provider → TwoPartyResult
+withProvider s file damage store p =
+    unless (allHaveOctets (p .«section_len») file damage) (T.Err E.ScriptMisshapen)
+    (unless (leb (length file) (length store)) (T.Err E.StoreFull)
+    (withReceiver p damage store (receiverMade (stationOf s (otherRole (s .role))) (s .ioa) (s .nof))))
+
+abbrev pub afterMaking : Settings → List ℕ → List ℕ → List ℕ → ProviderResult → TwoPartyResult
+afterMaking s file damage store (PM.Ok p) = withProvider s file damage store p
+afterMaking s file damage store (PM.Err e) = T.Err e
+
+-- before any frame: 2, 3 and 1 of the making, 11, 24
+unfoldable pub partyMade : Settings → List ℕ → List ℕ → List ℕ → TwoPartyResult
+partyMade s file damage store = afterMaking s file damage store (providerMade (stationOf s (s .role)) (s .ioa) (s .nof) (length file))
+
+-- ---- one frame
+
+-- the frame at an index of the Provider's reply, if there is one
+abbrev pub fromReply : FrameResult → Passing
+fromReply (F.Ok f) = N.Provider f
+fromReply (F.Err e) = N.Nothing
+
+abbrev pub first : Provider → List ℕ → Queue → Passing
+first p file Q.Empty = N.Nothing
+first p file (Q.Receiver f) = N.Receiver f
+first p file (Q.Provider reply i damaged) = fromReply (replyFrame p file reply i)
+
+-- the queue's first frame; 26 first
+unfoldable pub nextFrame : TwoParty → List ℕ → Passing
+nextFrame t file = unless (fileAgrees (t .provider) file) (N.Err E.RecordMismatch) (first (t .provider) file (t .queue))
+
+-- a transfer and the store
+pub record Moved : Type 0 where
+  pub party : TwoParty
+  pub store : List ℕ
+
+abbrev pub still : TwoParty → List ℕ → Moved
+still t store = record { party = t; store = store }
+
+-- the header of a station's own frame
+abbrev pub headerBy : FileTransferProcedure → Frame → Header
+headerBy s f = headerOf (s .ca) (s .org) f
+
+-- what the Provider's answer puts into the queue
+abbrev pub replied : Radio → ProviderAnswer → Queue
+replied r (P.Running reply) = Q.Provider reply 0 (ltb 0 (r .left))
+replied r P.Complete = Q.Empty
+replied r (P.Deactivated scq) = Q.Empty
+replied r (P.FileRejected afq) = Q.Empty
+replied r (P.Refused cause mirror) = Q.Empty
+replied r (P.Err e) = Q.Empty
+
+-- the Provider has answered
+abbrev pub afterProvider : TwoParty → List ℕ → ProviderStep → TwoParty
+afterProvider t damage s =
+    record {
+      provider = s .provider;
+      receiver = t .receiver;
+      queue = replied (t .radio) (s .answer);
+      radio = when (isSending (s .answer)) (afterSending damage (t .radio)) (t .radio);
+    }
+
+-- the Provider is handed the Receiver's frame
+abbrev pub toProvider : TwoParty → List ℕ → List ℕ → Frame → TwoParty
+toProvider t file damage f =
+    afterProvider t damage (provide (t .provider) file (headerBy (t .receiver .procedure) f) U.Nothing (D.Frame f) [])
+
+-- the Receiver has answered
+abbrev pub afterReceiver : TwoParty → Queue → Outcome → Moved
+afterReceiver t rest o =
+    record {
+      party = record { provider = t .provider; receiver = o .step .receiver; queue = asked rest (o .step .answer); radio = t .radio };
+      store = o .store;
+    }
+
+-- the Receiver is handed the Provider's frame, with what arrives beside it
+abbrev pub toReceiver : TwoParty → List ℕ → List ℕ → Reply → ℕ → Bool → FrameResult → Moved
+toReceiver t file store reply i damaged (F.Ok f) =
+    afterReceiver t (Q.Provider reply (i + 1) damaged)
+    (receive (t .receiver) store (headerBy (t .provider .procedure) f) U.Nothing (D.Frame f) (arriving damaged i (replyPayload (t .provider) file reply i)))
+toReceiver t file store reply i damaged (F.Err e) = still t store
+
+-- the queue's first frame passes; an empty queue stays
+abbrev pub passed : TwoParty → List ℕ → List ℕ → List ℕ → Queue → Moved
+passed t file damage store Q.Empty = still t store
+passed t file damage store (Q.Receiver f) = still (toProvider t file damage f) store
+passed t file damage store (Q.Provider reply i damaged) = toReceiver t file store reply i damaged (replyFrame (t .provider) file reply i)
+
+unfoldable pub advanced : TwoParty → List ℕ → List ℕ → List ℕ → Moved
+advanced t file damage store = passed t file damage store (t .queue)
+
+pub record Stepped : Type 0 where
+  pub result : TwoPartyResult
+  pub store : List ℕ
+
+abbrev pub went : Moved → Stepped
+went m = record { result = T.Ok (m .party); store = m .store }
+
+-- 26 first: a record that a making gives of this file, and one whose octets the store holds
+unfoldable pub stepped : TwoParty → List ℕ → List ℕ → List ℕ → Stepped
+stepped t file damage store =
+    unless (fileAgrees (t .provider) file and storeAgrees (t .receiver) store) (record { result = T.Err E.RecordMismatch; store = store })
+    (went (advanced t file damage store))
+
+-- ---- frame after frame
+
+abbrev pub isNothing : Passing → Bool
+isNothing N.Nothing = true
+isNothing (N.Provider f) = false
+isNothing (N.Receiver f) = false
+isNothing (N.Err e) = true
+
+-- no frame is left
+unfoldable pub isOver : TwoParty → List ℕ → Bool
+isOver t file = isNothing (nextFrame t file)
+
+pub record Ran : Type 0 where
+  pub result : RunResult
+  pub store : List ℕ
+
+abbrev pub whole : TwoParty → ℕ → RunResult
+whole t frames = Whole (t .receiver .kept) frames
+
+-- with so much of the budget left, after so many frames
+abbrev pub ranOn : ℕ → ℕ → TwoParty → List ℕ → List ℕ → List ℕ → Ran
+ranOn zero frames t file damage store = record { result = when (isOver t file) (whole t frames) (Spent frames); store = store }
+ranOn (suc budget) frames t file damage store =
+    when (isOver t file) (record { result = whole t frames; store = store })
+    (ranOn budget (frames + 1) (advanced t file damage store .party) file damage (advanced t file damage store .store))
+
+abbrev pub ranFrom : ℕ → List ℕ → List ℕ → List ℕ → TwoPartyResult → Ran
+ranFrom budget file damage store (T.Ok t) = ranOn budget 0 t file damage store
+ranFrom budget file damage store (T.Err e) = record { result = Err e; store = store }

@@ -1,0 +1,69 @@
+// The two-party run (document 01, A transfer script): one Provider and one Receiver, and between them a
+// radio that raises octets where the damage list says so. File, damage and store are lent to each call.
+mod noise; // which sending is damaged, and how
+
+use asdu::error::FtError;
+use asdu::file::Nof;
+use asdu::sizes::AddressSizes;
+use frame::Frame;
+use ft::direction::Role;
+use provide::Provider;
+use provide::Reply;
+use receive::Receiver;
+
+// What a run is given beside file, damage and store.
+pub struct Settings {
+    pub sizes: AddressSizes,
+    // Both stations' own.
+    pub common_address: u16,
+    pub ioa: u32,
+    pub nof: Nof,
+    // The Provider's; the Receiver has the other.
+    pub role: Role,
+}
+
+// The frames on their way. What a Receiver sends is one frame; what a Provider sends is a reply, of
+// which the frames from `next` on are still to come.
+pub enum Queue {
+    Empty,
+    Receiver(Frame),
+    Provider {
+        reply: Reply,
+        next: usize,
+        damaged: bool,
+    },
+}
+
+// The sendings to come: so many damaged ones of this section, then an intact one, then the next section.
+pub struct Radio {
+    pub section: u8,
+    pub left: usize,
+}
+
+// A transfer under way.
+pub struct TwoParty {
+    pub provider: Provider,
+    pub receiver: Receiver,
+    pub queue: Queue,
+    pub radio: Radio,
+}
+
+pub enum TwoPartyResult {
+    Ok(TwoParty),
+    Err(FtError),
+}
+
+// The frame that passes next, by its sender.
+pub enum Passing {
+    Nothing,
+    Provider(Frame),
+    Receiver(Frame),
+    Err(FtError),
+}
+
+// How a run ended, after so many frames: whole, with so many octets accepted, or with its budget spent.
+pub enum RunResult {
+    Whole { length: usize, frames: usize },
+    Spent { frames: usize },
+    Err(FtError),
+}
