@@ -1,5 +1,6 @@
 // The two-party run (document 01, A transfer script): one Provider and one Receiver, and between them a
 // radio that raises octets where the damage list says so. File, damage and store are lent to each call.
+mod begin; // the tests before any frame, and the start
 mod noise; // which sending is damaged, and how
 
 use asdu::error::FtError;

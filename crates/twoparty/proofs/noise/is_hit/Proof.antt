@@ -1,4 +1,3 @@
-use borrow.Author.Tests.{eq-eqb, ne-eqb}
 use Rattle.laws.proofs.Decide.{whens}
 use Rattle.twoparty.proofs.noise.is_hit.Statement.{statement}
 use Rattle.twoparty.proofs.noise.is_hit.Tie as tie
