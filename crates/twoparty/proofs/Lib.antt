@@ -1,1 +1,2 @@
 pub mod Damage
+pub mod Reaches
