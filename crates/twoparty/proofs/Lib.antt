@@ -5,3 +5,5 @@ pub mod Following
 pub mod Named
 pub mod Running
 pub mod Whole
+pub mod Damage
+pub mod Reaches

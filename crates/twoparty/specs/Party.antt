@@ -164,6 +164,10 @@ replied r (P.FileRejected afq) = Q.Empty
 replied r (P.Refused cause mirror) = Q.Empty
 replied r (P.Err e) = Q.Empty
 
+-- the sendings to come after the Provider's answer
+abbrev pub afterAnswer : List ℕ → Radio → ProviderAnswer → Radio
+afterAnswer damage r a = when (isSending a) (afterSending damage r) r
+
 -- the Provider has answered
 abbrev pub afterProvider : TwoParty → List ℕ → ProviderStep → TwoParty
 afterProvider t damage s =
@@ -171,7 +175,7 @@ afterProvider t damage s =
       provider = s .provider;
       receiver = t .receiver;
       queue = replied (t .radio) (s .answer);
-      radio = when (isSending (s .answer)) (afterSending damage (t .radio)) (t .radio);
+      radio = afterAnswer damage (t .radio) (s .answer);
     }
 
 -- the Provider is handed the Receiver's frame
@@ -179,13 +183,12 @@ abbrev pub toProvider : TwoParty → List ℕ → List ℕ → Frame → TwoPart
 toProvider t file damage f =
     afterProvider t damage (provide (t .provider) file (headerBy (t .receiver .procedure) f) U.Nothing (D.Frame f) [])
 
--- the Receiver has answered
+-- the Receiver has answered; `rest` is the queue behind the frame
+abbrev pub heard : TwoParty → Queue → ReceiverStep → TwoParty
+heard t rest s = record { provider = t .provider; receiver = s .receiver; queue = asked rest (s .answer); radio = t .radio }
+
 abbrev pub afterReceiver : TwoParty → Queue → Outcome → Moved
-afterReceiver t rest o =
-    record {
-      party = record { provider = t .provider; receiver = o .step .receiver; queue = asked rest (o .step .answer); radio = t .radio };
-      store = o .store;
-    }
+afterReceiver t rest o = record { party = heard t rest (o .step); store = o .store }
 
 -- the Receiver is handed the Provider's frame, with what arrives beside it
 abbrev pub toReceiver : TwoParty → List ℕ → List ℕ → Reply → ℕ → Bool → FrameResult → Moved

@@ -1,8 +1,8 @@
 // The two-party run (document 01, A transfer script): one Provider and one Receiver, and between them a
 // radio that raises octets where the damage list says so. File, damage and store are lent to each call.
-// mod begin; // the tests before any frame, and the start
-// mod run; // frame after frame, up to a budget
-// mod step; // one frame
+mod begin; // the tests before any frame, and the start
+mod noise; // which sending is damaged, and how
+mod step; // one frame
 
 use asdu::error::FtError;
 use asdu::file::Nof;

@@ -1,0 +1,30 @@
+use Rattle.twoparty.specs.Party.{arriving}
+use denote.Ref.{now}
+use Rattle.twoparty.proofs.Reaches.{payload-short}
+use borrow.Author.Needs.{needs}
+use Rattle.twoparty.proofs.TwoParty.deliver.Statement.{statement}
+use Rattle.twoparty.proofs.TwoParty.deliver.Tie as tie
+
+pub deliver-spec : {M : Type 1} → statement M
+unfolding arriving
+deliver-spec =
+    tie.close
+    (tie.spec
+    (λ c κs. search needs)
+    (λ c κs. search needs)
+    (λ c κs. search needs)
+    (λ c κs.
+    let p = c .before .before .before in
+    let a = p .before .before .before .before .before .before .args in
+    rw (p .reply-payload .ensures) (payload-short (a .self .provider) (now (a .file)) (a .reply) (a .next)))
+    (λ c. search needs)
+    (λ c κs. search needs)
+    (λ c. search needs)
+    (λ c.
+    let s = c .before .before .before in
+    let t = s .before .before in
+    let p = t .before .before in (
+      simp (← (t .is-hit .ensures), ← (t .before .header-by .ensures), ← (p .reply-payload .ensures))
+          (simp (← (s .hand-over .ensures .0)) (c .after-receiver .ensures)),
+      simp (← (t .is-hit .ensures), ← (t .before .header-by .ensures), ← (p .reply-payload .ensures)) (s .hand-over .ensures .1),
+    )))

@@ -1,0 +1,289 @@
+// One frame passes: the queue's first is handed, under a header of its sender's, to the other machine,
+// and what that sends joins the queue.
+use crate::Passing;
+use crate::Queue;
+use crate::Radio;
+use crate::TwoParty;
+use crate::TwoPartyResult;
+use crate::noise;
+use asdu::error::FtError;
+use asdu::header::Header;
+use asdu::header::UnknownField;
+use frame::Frame;
+use ft::admit::Received;
+use ft::build;
+use ft::procedure::FileTransferProcedure;
+use provide::FrameResult;
+use provide::ProviderAnswer;
+use provide::ProviderStep;
+use provide::Reply;
+use receive::Receiver;
+use receive::ReceiverStep;
+ghost use Prim.Native.Nat.{_≤_};
+ghost use mathlib.Core.Path.{_≡_};
+ghost use lib.ListN.{length};
+ghost use Rattle.laws.specs.When.{when};
+ghost use Rattle.asdu.specs.declared.header.UnknownField.the-variants as U;
+ghost use Rattle.ft.specs.declared.admit.Received.the-variants as D;
+ghost use Rattle.provide.specs.Replies.{replyFrame};
+ghost use Rattle.provide.specs.declared.FrameResult.the-variants as F;
+ghost use Rattle.receive.specs.Answers.{receive};
+ghost use Rattle.exchange.specs.Damaging.{raised};
+ghost use Rattle.exchange.specs.Exchange.{isSection, isSending};
+ghost use Rattle.twoparty.specs.Party.{afterSending, afterAnswer, fromReply, first, nextFrame, headerBy, replied, afterProvider, toProvider, heard, toReceiver, advanced, stepped};
+
+// The header of a station's own frame.
+fn header_by(station: FileTransferProcedure, frame: Frame) -> Header
+    ensures { λ r. ⌜ r ≡ headerBy station frame ⌝ }
+{
+    build::header_of(station.ca, station.org, frame)
+}
+
+// Whether a reply is a sending: a section's segments and its close.
+fn is_section(reply: Reply) -> bool
+    ensures { λ r. ⌜ r ≡ isSection reply ⌝ }
+{
+    match reply {
+        Reply::Nothing => false,
+        Reply::FileReady => false,
+        Reply::SectionReady(_) => false,
+        Reply::Section(_) => true,
+        Reply::FileClose(_) => false,
+    }
+}
+
+fn is_sending(answer: ProviderAnswer) -> bool
+    ensures { λ r. ⌜ r ≡ isSending answer ⌝ }
+{
+    match answer {
+        ProviderAnswer::Running(reply) => is_section(reply),
+        ProviderAnswer::Complete => false,
+        ProviderAnswer::Deactivated { .. } => false,
+        ProviderAnswer::FileRejected { .. } => false,
+        ProviderAnswer::Refused { .. } => false,
+        ProviderAnswer::Err(_) => false,
+    }
+}
+
+// What the Provider's answer puts into the queue.
+fn replied(radio: Radio, answer: ProviderAnswer) -> Queue
+    ensures { λ r. ⌜ r ≡ replied radio answer ⌝ }
+{
+    match answer {
+        ProviderAnswer::Running(reply) => Queue::Provider {
+            reply,
+            next: 0,
+            damaged: radio.is_damaging(),
+        },
+        ProviderAnswer::Complete => Queue::Empty,
+        ProviderAnswer::Deactivated { .. } => Queue::Empty,
+        ProviderAnswer::FileRejected { .. } => Queue::Empty,
+        ProviderAnswer::Refused { .. } => Queue::Empty,
+        ProviderAnswer::Err(_) => Queue::Empty,
+    }
+}
+
+// A frame of the Provider's that was found at its index.
+fn from_reply(found: FrameResult) -> Passing
+    ensures { λ r. ⌜ r ≡ fromReply found ⌝ }
+{
+    match found {
+        FrameResult::Ok(frame) => Passing::Provider(frame),
+        FrameResult::Err(_) => Passing::Nothing,
+    }
+}
+
+// The frame is handed to the Receiver with what arrives beside it: the payload, its first octet raised
+// where the radio hits it.
+fn hand_over(
+    receiver: Receiver,
+    store: &mut [u8],
+    header: Header,
+    frame: Frame,
+    payload: &[u8],
+    hit: bool,
+) -> ReceiverStep
+    requires { ⌜ length (now payload) ≤ 240 ⌝ }
+    ensures { λ r. ⌜ (r ≡ receive receiver (now (store .entry)) header U.Nothing (D.Frame frame) (when hit (raised (now (payload .entry))) (now (payload .entry))) .step)
+        × (now (store .exit) ≡ receive receiver (now (store .entry)) header U.Nothing (D.Frame frame) (when hit (raised (now (payload .entry))) (now (payload .entry))) .store) ⌝ }
+{
+    let received = Received::Frame(frame);
+    if hit {
+        let n = payload.len();
+        let mut copy = [0u8; 240];
+        noise::raise(payload, &mut copy);
+        return receiver.on_asdu(store, header, UnknownField::Nothing, received, &copy[0..n]);
+    }
+    receiver.on_asdu(store, header, UnknownField::Nothing, received, payload)
+}
+
+impl Radio {
+    // After the Provider's answer.
+    fn after_answer(self, damage: &[u8], answer: ProviderAnswer) -> Radio
+        ensures { λ r. ⌜ r ≡ afterAnswer (now (damage .entry)) self answer ⌝ }
+    {
+        if is_sending(answer) {
+            return self.after_sending(damage);
+        }
+        self
+    }
+}
+
+impl TwoParty {
+    // The queue's first frame.
+    fn first(self, file: &[u8]) -> Passing
+        ensures { λ r. ⌜ r ≡ first (self .provider) (now (file .entry)) (self .queue) ⌝ }
+    {
+        let provider = self.provider;
+        let queue = self.queue;
+        match queue {
+            Queue::Empty => return Passing::Nothing,
+            Queue::Receiver(frame) => return Passing::Receiver(frame),
+            Queue::Provider { reply, next, .. } => {
+                return from_reply(provider.reply_frame(file, reply, next));
+            }
+        }
+    }
+
+    // The frame that passes next; 26 where the Provider's record and the file disagree.
+    pub fn next_frame(self, file: &[u8]) -> Passing
+        ensures { λ r. ⌜ r ≡ nextFrame self (now (file .entry)) ⌝ }
+    {
+        let provider = self.provider;
+        if provider.agrees(file) {
+            return self.first(file);
+        }
+        Passing::Err(FtError::RecordMismatch)
+    }
+
+    // The Provider has answered.
+    fn after_provider(self, damage: &[u8], step: ProviderStep) -> TwoParty
+        ensures { λ r. ⌜ r ≡ afterProvider self (now (damage .entry)) step ⌝ }
+    {
+        let provider = step.provider;
+        let answer = step.answer;
+        let receiver = self.receiver;
+        let before = self.radio;
+        let queue = replied(before, answer);
+        let radio = before.after_answer(damage, answer);
+        TwoParty {
+            provider,
+            receiver,
+            queue,
+            radio,
+        }
+    }
+
+    // The Provider is handed the Receiver's frame.
+    fn to_provider(self, file: &[u8], damage: &[u8], frame: Frame) -> TwoParty
+        ensures { λ r. ⌜ r ≡ toProvider self (now (file .entry)) (now (damage .entry)) frame ⌝ }
+    {
+        let provider = self.provider;
+        let receiver = self.receiver;
+        let procedure = receiver.procedure;
+        let header = header_by(procedure, frame);
+        let received = Received::Frame(frame);
+        let step = provider.on_asdu(file, header, UnknownField::Nothing, received, &[]);
+        self.after_provider(damage, step)
+    }
+
+    // The Receiver has answered; `rest` is the queue behind the frame.
+    fn after_receiver(self, rest: Queue, step: ReceiverStep) -> TwoParty
+        ensures { λ r. ⌜ r ≡ heard self rest step ⌝ }
+    {
+        let provider = self.provider;
+        let receiver = step.receiver;
+        let answer = step.answer;
+        let queue = rest.asked(answer);
+        let radio = self.radio;
+        TwoParty {
+            provider,
+            receiver,
+            queue,
+            radio,
+        }
+    }
+
+    // The Receiver is handed the frame at index `next` of the Provider's reply.
+    fn deliver(
+        self,
+        file: &[u8],
+        store: &mut [u8],
+        reply: Reply,
+        next: usize,
+        damaged: bool,
+        frame: Frame,
+    ) -> TwoParty
+        requires { ⌜ next ≤ 0xFFFFFF ⌝ }
+        ensures { λ r. ⌜ (r ≡ toReceiver self (now (file .entry)) (now (store .entry)) reply next damaged (F.Ok frame) .party)
+            × (now (store .exit) ≡ toReceiver self (now (file .entry)) (now (store .entry)) reply next damaged (F.Ok frame) .store) ⌝ }
+    {
+        let provider = self.provider;
+        let receiver = self.receiver;
+        let procedure = provider.procedure;
+        let payload = provider.reply_payload(file, reply, next);
+        let header = header_by(procedure, frame);
+        let hit = noise::is_hit(damaged, next);
+        let step = hand_over(receiver, store, header, frame, payload, hit);
+        let rest = Queue::Provider {
+            reply,
+            next: next + 1,
+            damaged,
+        };
+        self.after_receiver(rest, step)
+    }
+
+    // The same where there is a frame at that index; else nothing changes.
+    fn to_receiver(
+        self,
+        file: &[u8],
+        store: &mut [u8],
+        reply: Reply,
+        next: usize,
+        damaged: bool,
+    ) -> TwoParty
+        ensures { λ r. ⌜ (r ≡ toReceiver self (now (file .entry)) (now (store .entry)) reply next damaged (replyFrame (self .provider) (now (file .entry)) reply next) .party)
+            × (now (store .exit) ≡ toReceiver self (now (file .entry)) (now (store .entry)) reply next damaged (replyFrame (self .provider) (now (file .entry)) reply next) .store) ⌝ }
+    {
+        let provider = self.provider;
+        match provider.reply_frame(file, reply, next) {
+            FrameResult::Ok(frame) => {
+                return self.deliver(file, store, reply, next, damaged, frame);
+            }
+            FrameResult::Err(_) => return self,
+        }
+    }
+
+    // The queue's first frame passes; an empty queue stays.
+    pub(crate) fn advance(self, file: &[u8], damage: &[u8], store: &mut [u8]) -> TwoParty
+        ensures { λ r. ⌜ (r ≡ advanced self (now (file .entry)) (now (damage .entry)) (now (store .entry)) .party)
+            × (now (store .exit) ≡ advanced self (now (file .entry)) (now (damage .entry)) (now (store .entry)) .store) ⌝ }
+    {
+        let queue = self.queue;
+        match queue {
+            Queue::Empty => return self,
+            Queue::Receiver(frame) => return self.to_provider(file, damage, frame),
+            Queue::Provider {
+                reply,
+                next,
+                damaged,
+            } => return self.to_receiver(file, store, reply, next, damaged),
+        }
+    }
+
+    // One frame passes: 26 first, where a record disagrees with its lent buffer; with no frame left
+    // nothing changes.
+    pub fn step(self, file: &[u8], damage: &[u8], store: &mut [u8]) -> TwoPartyResult
+        ensures { λ r. ⌜ (r ≡ stepped self (now (file .entry)) (now (damage .entry)) (now (store .entry)) .result)
+            × (now (store .exit) ≡ stepped self (now (file .entry)) (now (damage .entry)) (now (store .entry)) .store) ⌝ }
+    {
+        let provider = self.provider;
+        let receiver = self.receiver;
+        if provider.agrees(file) {
+            if receiver.agrees(store) {
+                return TwoPartyResult::Ok(self.advance(file, damage, store));
+            }
+        }
+        TwoPartyResult::Err(FtError::RecordMismatch)
+    }
+}
