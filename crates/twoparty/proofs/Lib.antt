@@ -1,2 +1,3 @@
 pub mod Damage
 pub mod Reaches
+pub mod Running
