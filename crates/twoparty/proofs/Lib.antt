@@ -1,3 +1,6 @@
+pub mod Damage
+pub mod Reaches
+pub mod Left
 pub mod Machines
 pub mod Told
 pub mod Tuning
@@ -5,5 +8,3 @@ pub mod Following
 pub mod Named
 pub mod Running
 pub mod Whole
-pub mod Damage
-pub mod Reaches

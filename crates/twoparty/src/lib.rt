@@ -2,6 +2,7 @@
 // radio that raises octets where the damage list says so. File, damage and store are lent to each call.
 mod begin; // the tests before any frame, and the start
 mod noise; // which sending is damaged, and how
+pub mod run; // frame after frame, up to a budget
 mod step; // one frame
 
 use asdu::error::FtError;
