@@ -1,0 +1,5 @@
+pub mod ReaderLaws
+pub mod Decimals
+pub mod NumberLaws
+pub mod ListLaws
+pub mod Stages

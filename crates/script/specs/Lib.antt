@@ -1,0 +1,4 @@
+pub mod Decimal
+pub mod Script
+pub mod Reader
+pub mod Answers
