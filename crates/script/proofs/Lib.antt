@@ -3,3 +3,4 @@ pub mod Decimals
 pub mod NumberLaws
 pub mod ListLaws
 pub mod Stages
+pub mod Writing

@@ -12,3 +12,8 @@ digits (suc k) n = when (leb n 9) ((48 + n) ∷ []) (digits k (n / 10) ++ ((48 +
 -- a number has no more digits than ones, and 0 has one
 unfoldable pub decimal : ℕ → List ℕ
 decimal n = digits (suc n) n
+
+-- each number after one space, which is 32 in ASCII
+abbrev pub spaced : List ℕ → List ℕ
+spaced [] = []
+spaced (n ∷ ns) = 32 ∷ (decimal n ++ spaced ns)

@@ -2,7 +2,7 @@
 use Prim.Native.Nat.{ℕ, _≤_}
 use mathlib.Core.List.{List, [], _∷_, _++_}
 use lib.ListN.{length}
-use Rattle.script.specs.Decimal.{decimal}
+use Rattle.script.specs.Decimal.{decimal, spaced}
 
 pub record Script : Type 0 where
   pub object : ℕ
@@ -23,11 +23,6 @@ pub record Right (s : Script) : Type 0 where
   pub file : Octets (s .file)
   pub damage-length : length (s .damage) ≤ 255
   pub damage : Octets (s .damage)
-
--- each number after one space, which is 32 in ASCII
-abbrev pub spaced : List ℕ → List ℕ
-spaced [] = []
-spaced (n ∷ ns) = 32 ∷ (decimal n ++ spaced ns)
 
 -- three sections, each after its count, and one newline, which is 10
 unfoldable pub textOf : Script → List ℕ
