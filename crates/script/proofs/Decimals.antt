@@ -1,0 +1,44 @@
+-- The decimal digits of a number, from the last digit backwards.
+use Prim.Native.Nat.{ℕ, zero, suc, _+_, _*_, _-_, _/_, _%_, _≤_, _<_}
+use mathlib.Core.Bool.{Bool, true, false}
+use mathlib.Core.Path.{_≡_, refl, _∙_}
+use mathlib.Core.List.{List, [], _∷_, _++_}
+use native.Mathlib.Omega.{arith}
+use lib.Dec.{leb}
+use borrow.Author.Tests.{leb-false, le-leb, lt-leb}
+use Rattle.laws.proofs.Decide.{whens}
+use Rattle.script.specs.Decimal.{digits, decimal}
+
+-- by both results of a test
+pub either : {P : Type 0} (b : Bool) → (b ≡ true → P) → (b ≡ false → P) → P
+either true f g = f refl
+either false f g = g refl
+
+-- room for more digits than there are changes nothing
+digits-any : (k j n : ℕ) → n < k → n < j → digits k n ≡ digits j n
+unfolding digits
+digits-any zero j n h g = absurd (omega arith)
+digits-any (suc k) zero n h g = absurd (omega arith)
+digits-any (suc k) (suc j) n h g =
+    either (leb n 9) (λ e. simp (whens, e))
+    (λ e.
+    let m : 9 < n = leb-false _ _ e in
+    let same : digits k (n / 10) ≡ digits j (n / 10) = digits-any k j (n / 10) (omega arith) (omega arith) in
+    simp (whens, e, same))
+
+module _ (n : ℕ) where
+  pub decimal-one : n ≤ 9 → decimal n ≡ (48 + n) ∷ []
+  unfolding decimal digits
+  decimal-one h = simp (whens, le-leb _ _ h)
+
+  pub decimal-more : 9 < n → decimal n ≡ decimal (n / 10) ++ ((48 + n % 10) ∷ [])
+  unfolding decimal digits
+  decimal-more h = simp (whens, lt-leb _ _ h, digits-any n (suc (n / 10)) (n / 10) (omega arith) (omega arith))
+
+-- one digit more
+pub decimal-next : (v x : ℕ) → 0 < v → 48 ≤ x → x ≤ 57 → decimal (10 * v + (x - 48)) ≡ decimal v ++ (x ∷ [])
+decimal-next v x h l m =
+    let n = 10 * v + (x - 48) in
+    let q : n / 10 ≡ v = omega arith in
+    let r : 48 + n % 10 ≡ x = omega arith in
+    decimal-more n (omega arith) ∙ simp (q, r)

@@ -1,0 +1,6 @@
+pub mod ReaderLaws
+pub mod Decimals
+pub mod NumberLaws
+pub mod ListLaws
+pub mod Stages
+pub mod Writing

@@ -1,0 +1,60 @@
+-- What reading a script answers, and the places in a text by which the code says what it found.
+use Prim.Native.Nat.{ℕ, _≤_}
+use mathlib.Core.Path.{_≡_}
+use mathlib.Core.List.{List, [], _++_}
+use lib.ListN.{length, take, drop}
+use Rattle.asdu.specs.declared.error.FtError.the-variants.{ScriptMisshapen}
+use Rattle.script.specs.Script.{Script}
+use Rattle.script.specs.Reader.{Found, nothing, found, Settings}
+use Rattle.script.specs.declared.read.Reading.{Reading}
+use Rattle.script.specs.declared.read.Reading.the-variants as R
+use Rattle.script.specs.declared.read.Settings as D
+use Rattle.script.specs.declared.read.Settings.the-variants as S
+use Rattle.script.specs.declared.read.ScriptResult.{ScriptResult}
+use Rattle.script.specs.declared.read.ScriptResult.the-variants.{Ok, Err}
+
+-- a number found, and the text after its place
+abbrev pub foundAt : List ℕ → Reading → Found ℕ
+foundAt text (R.Number value next) = found value (drop next text)
+foundAt text R.Nothing = nothing
+
+-- so many octets found, in front of a buffer
+abbrev pub octetsAt : List ℕ → List ℕ → Reading → Found (List ℕ)
+octetsAt text out (R.Number count next) = found (take count out) (drop next text)
+octetsAt text out R.Nothing = nothing
+
+-- and the buffer behind them as it was
+abbrev pub Kept : List ℕ → List ℕ → Reading → Type 0
+Kept was is (R.Number count next) = (count ≤ length is) × (drop count is ≡ drop count was)
+Kept was is R.Nothing = Unit {0}
+
+-- the settings found
+abbrev pub settingsAt : List ℕ → D.Settings → Found Settings
+settingsAt text (S.Are ioa nof next) = found (record { object = ioa; nof = nof .value }) (drop next text)
+settingsAt text S.Nothing = nothing
+
+-- ---- what the whole text answers
+
+-- a script's numbers and lengths, or 11
+unfoldable pub answerOf : Found Script → ScriptResult
+answerOf (found s rest) =
+    Ok (record { ioa = s .object; nof = record { value = s .nof }; «file_len» = length (s .file); «damage_len» = length (s .damage) })
+answerOf nothing = Err ScriptMisshapen
+
+-- octets over the front of a buffer
+abbrev pub over : List ℕ → List ℕ → List ℕ
+over octets there = octets ++ drop (length octets) there
+
+-- both buffers filled, where the text is a script
+abbrev pub Filled : Found Script → List ℕ → List ℕ → List ℕ → List ℕ → Type 0
+Filled (found s rest) file₀ file damage₀ damage = (file ≡ over (s .file) file₀) × (damage ≡ over (s .damage) damage₀)
+Filled nothing file₀ file damage₀ damage = Unit {0}
+
+-- the buffer of a script's file, and of its damage; a refusal leaves both as they came in
+unfoldable pub fileAfter : Found Script → List ℕ → List ℕ
+fileAfter (found s rest) there = over (s .file) there
+fileAfter nothing there = there
+
+unfoldable pub damageAfter : Found Script → List ℕ → List ℕ
+damageAfter (found s rest) there = over (s .damage) there
+damageAfter nothing there = there

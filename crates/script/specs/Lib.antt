@@ -1,0 +1,5 @@
+pub mod Decimal
+pub mod Script
+pub mod Reader
+pub mod Answers
+pub mod LineText

@@ -1,0 +1,31 @@
+-- A transfer script and its text (document 01, A transfer script).
+use Prim.Native.Nat.{ℕ, _≤_}
+use mathlib.Core.List.{List, [], _∷_, _++_}
+use lib.ListN.{length}
+use Rattle.script.specs.Decimal.{decimal, spaced}
+
+pub record Script : Type 0 where
+  pub object : ℕ
+  pub nof : ℕ
+  pub file : List ℕ
+  -- the sections named
+  pub damage : List ℕ
+
+pub data Octets : List ℕ → Type 0 where
+  none : Octets []
+  one : {x : ℕ} {xs : List ℕ} → x ≤ 255 → Octets xs → Octets (x ∷ xs)
+
+-- every number within its field
+pub record Right (s : Script) : Type 0 where
+  pub object : s .object ≤ 16777215
+  pub nof : s .nof ≤ 65535
+  pub file-length : length (s .file) ≤ 8192
+  pub file : Octets (s .file)
+  pub damage-length : length (s .damage) ≤ 255
+  pub damage : Octets (s .damage)
+
+-- three sections, each after its count, and one newline, which is 10
+unfoldable pub textOf : Script → List ℕ
+textOf s =
+    decimal 2
+    ++ (spaced (s .object ∷ s .nof ∷ length (s .file) ∷ (s .file ++ (length (s .damage) ∷ s .damage))) ++ (10 ∷ []))
