@@ -55,11 +55,11 @@ numbers (suc n) t = thenRead (after 255 t) (λ x rest. thenRead (numbers n rest)
 unfoldable pub counted : ℕ → List ℕ → Found (List ℕ)
 counted limit t = thenRead (after limit t) numbers
 
--- the settings, after their count, which is 2: 50 in ASCII
 pub record Settings : Type 0 where
   pub object : ℕ
   pub nof : ℕ
 
+-- the settings after their count, which is 2: 50 in ASCII
 unfoldable pub settings : List ℕ → Found Settings
 settings t =
     when (begins 50 t)
