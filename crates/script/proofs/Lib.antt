@@ -4,3 +4,5 @@ pub mod NumberLaws
 pub mod ListLaws
 pub mod Stages
 pub mod Writing
+pub mod Meaning
+pub mod Worked

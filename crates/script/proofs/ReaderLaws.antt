@@ -1,5 +1,5 @@
 -- What a reader finds at a place of a text.
-use Prim.Native.Nat.{ℕ, zero, suc, _+_, _*_, _-_, _≤_, _<_}
+use Prim.Native.Nat.{ℕ, zero, _+_, _*_, _-_, _≤_, _<_}
 use mathlib.Core.Bool.{Bool, true, false}
 use mathlib.Core.Path.{_≡_, refl, sym, ap, _∙_}
 use mathlib.Core.List.{List, [], _∷_}
@@ -11,7 +11,7 @@ use lib.Seq.{drop-cons, drop-drop}
 use borrow.Author.Tests.{ltb-true, ltb-false, leb-true, le-leb, lt-leb, ne-eqb}
 use Rattle.laws.proofs.Decide.{whens, when-true}
 use Rattle.asdu.proofs.Range.{both}
-use Rattle.script.specs.Reader.{Found, nothing, found, isDigit, begins, beginsDigit, more, number, after}
+use Rattle.script.specs.Reader.{nothing, found, begins, beginsDigit, more, number, after}
 
 no-digit : beginsDigit [] ≡ false
 unfolding beginsDigit

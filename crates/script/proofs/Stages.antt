@@ -1,8 +1,9 @@
 -- A whole text, stage by stage, and what its meaning makes of the answer and the buffers.
 use Prim.Native.Nat.{ℕ, _≤_}
 use mathlib.Core.Bool.{true, false}
-use mathlib.Core.Path.{_≡_, refl, sym, ap, _∙_}
-use mathlib.Core.List.{List, [], _++_}
+use mathlib.Core.Path.{_≡_, refl, sym}
+use mathlib.Core.Option.{Option, none, some}
+use mathlib.Core.List.{List}
 use native.Mathlib.Omega.{arith}
 use lib.ListN.{length, take, drop, take-append-drop}
 use lib.Seq.{length-take-le}
@@ -13,31 +14,31 @@ use Rattle.asdu.specs.declared.error.FtError.the-variants.{ScriptMisshapen}
 use Rattle.script.specs.declared.read.Outline.{Outline}
 use Rattle.script.specs.declared.read.ScriptResult.the-variants.{Ok, Err}
 use Rattle.script.specs.Script.{Script}
-use Rattle.script.specs.Reader.{Found, nothing, found, Settings, settings, counted, ends, scriptOf}
+use Rattle.script.specs.Reader.{nothing, found, Settings, settings, counted, ends, sections, scriptOf}
 use Rattle.script.specs.Answers.{answerOf, over, Filled, fileAfter, damageAfter}
 
 module _ (t : List ℕ) where
-  pub no-settings : nothing ≡ settings t → scriptOf t ≡ nothing
-  unfolding scriptOf
+  pub no-settings : nothing ≡ settings t → scriptOf t ≡ none
+  unfolding scriptOf sections
   no-settings e = rw (← e)
 
   module _ {s : Settings} {t₁ : List ℕ} (e₁ : found s t₁ ≡ settings t) where
-    pub no-file : nothing ≡ counted 8192 t₁ → scriptOf t ≡ nothing
-    unfolding scriptOf
+    pub no-file : nothing ≡ counted 8192 t₁ → scriptOf t ≡ none
+    unfolding scriptOf sections
     no-file e = rw (← e₁, ← e)
 
     module _ {file t₂ : List ℕ} (e₂ : found file t₂ ≡ counted 8192 t₁) where
-      pub no-damage : nothing ≡ counted 255 t₂ → scriptOf t ≡ nothing
-      unfolding scriptOf
+      pub no-damage : nothing ≡ counted 255 t₂ → scriptOf t ≡ none
+      unfolding scriptOf sections
       no-damage e = rw (← e₁, ← e₂, ← e)
 
       module _ {damage t₃ : List ℕ} (e₃ : found damage t₃ ≡ counted 255 t₂) where
-        pub no-end : ends t₃ ≡ false → scriptOf t ≡ nothing
-        unfolding scriptOf
+        pub no-end : ends t₃ ≡ false → scriptOf t ≡ none
+        unfolding scriptOf sections
         no-end e = rw (← e₁, ← e₂, ← e₃) (simp (whens, e))
 
-        pub whole : ends t₃ ≡ true → scriptOf t ≡ found (record { object = s .object; nof = s .nof; file = file; damage = damage }) []
-        unfolding scriptOf
+        pub whole : ends t₃ ≡ true → scriptOf t ≡ some (record { object = s .object; nof = s .nof; file = file; damage = damage })
+        unfolding scriptOf sections
         whole e = rw (← e₁, ← e₂, ← e₃) (simp (whens, e))
 
 -- ---- the buffers
@@ -46,13 +47,13 @@ module _ (t : List ℕ) where
 over-front : (was is : List ℕ) (n : ℕ) → n ≤ length is → drop n is ≡ drop n was → is ≡ over (take n is) was
 over-front was is n h e = rw (length-take-le n is h, ← e) (sym (take-append-drop n is))
 
-module _ (m : Found Script) (file₀ file damage₀ damage : List ℕ) where
-  pub refused : m ≡ nothing → (Err ScriptMisshapen ≡ answerOf m) × Filled m file₀ file damage₀ damage
+module _ (m : Option Script) (file₀ file damage₀ damage : List ℕ) where
+  pub refused : m ≡ none → (Err ScriptMisshapen ≡ answerOf m) × Filled m file₀ file damage₀ damage
   unfolding answerOf
   refused e = rw e (refl, tt)
 
   pub accepted : (ioa : ℕ) (nof : Nof) (n k : ℕ)
-      → m ≡ found (record { object = ioa; nof = nof .value; file = take n file; damage = take k damage }) []
+      → m ≡ some (record { object = ioa; nof = nof .value; file = take n file; damage = take k damage })
       → (n ≤ length file) × (drop n file ≡ drop n file₀)
       → (k ≤ length damage) × (drop k damage ≡ drop k damage₀)
       → (Ok (record { ioa = ioa; nof = nof; «file_len» = n; «damage_len» = k }) ≡ answerOf m) × Filled m file₀ file damage₀ damage
@@ -66,11 +67,11 @@ module _ (m : Found Script) (file₀ file damage₀ damage : List ℕ) where
   unfolding answerOf fileAfter damageAfter
   filled o e h = go m e h
     where
-      go : (m : Found Script) → Ok o ≡ answerOf m → Filled m file₀ file damage₀ damage → (file ≡ fileAfter m file₀) × (damage ≡ damageAfter m damage₀)
-      go nothing e h = let z : _≡_ {A = ℕ} 0 1 = cc in absurd (omega arith)
-      go (found s rest) e h = h
+      go : (m : Option Script) → Ok o ≡ answerOf m → Filled m file₀ file damage₀ damage → (file ≡ fileAfter m file₀) × (damage ≡ damageAfter m damage₀)
+      go none e h = let z : _≡_ {A = ℕ} 0 1 = cc in absurd (omega arith)
+      go (some s) e h = h
 
-pub unread : (m : Found Script) (x : FtError) → Err x ≡ answerOf m → m ≡ nothing
+pub unread : (m : Option Script) (x : FtError) → Err x ≡ answerOf m → m ≡ none
 unfolding answerOf
-unread nothing x e = refl
-unread (found s rest) x e = let z : _≡_ {A = ℕ} 0 1 = cc in absurd (omega arith)
+unread none x e = refl
+unread (some s) x e = let z : _≡_ {A = ℕ} 0 1 = cc in absurd (omega arith)

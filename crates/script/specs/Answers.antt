@@ -1,7 +1,8 @@
 -- What reading a script answers, and the places in a text by which the code says what it found.
 use Prim.Native.Nat.{ℕ, _≤_}
 use mathlib.Core.Path.{_≡_}
-use mathlib.Core.List.{List, [], _++_}
+use mathlib.Core.Option.{Option, none, some}
+use mathlib.Core.List.{List, _++_}
 use lib.ListN.{length, take, drop}
 use Rattle.asdu.specs.declared.error.FtError.the-variants.{ScriptMisshapen}
 use Rattle.script.specs.Script.{Script}
@@ -36,25 +37,25 @@ settingsAt text S.Nothing = nothing
 -- ---- what the whole text answers
 
 -- a script's numbers and lengths, or 11
-unfoldable pub answerOf : Found Script → ScriptResult
-answerOf (found s rest) =
+unfoldable pub answerOf : Option Script → ScriptResult
+answerOf (some s) =
     Ok (record { ioa = s .object; nof = record { value = s .nof }; «file_len» = length (s .file); «damage_len» = length (s .damage) })
-answerOf nothing = Err ScriptMisshapen
+answerOf none = Err ScriptMisshapen
 
 -- octets over the front of a buffer
 abbrev pub over : List ℕ → List ℕ → List ℕ
 over octets there = octets ++ drop (length octets) there
 
 -- both buffers filled, where the text is a script
-abbrev pub Filled : Found Script → List ℕ → List ℕ → List ℕ → List ℕ → Type 0
-Filled (found s rest) file₀ file damage₀ damage = (file ≡ over (s .file) file₀) × (damage ≡ over (s .damage) damage₀)
-Filled nothing file₀ file damage₀ damage = Unit {0}
+abbrev pub Filled : Option Script → List ℕ → List ℕ → List ℕ → List ℕ → Type 0
+Filled (some s) file₀ file damage₀ damage = (file ≡ over (s .file) file₀) × (damage ≡ over (s .damage) damage₀)
+Filled none file₀ file damage₀ damage = Unit {0}
 
 -- the buffer of a script's file, and of its damage; a refusal leaves both as they came in
-unfoldable pub fileAfter : Found Script → List ℕ → List ℕ
-fileAfter (found s rest) there = over (s .file) there
-fileAfter nothing there = there
+unfoldable pub fileAfter : Option Script → List ℕ → List ℕ
+fileAfter (some s) there = over (s .file) there
+fileAfter none there = there
 
-unfoldable pub damageAfter : Found Script → List ℕ → List ℕ
-damageAfter (found s rest) there = over (s .damage) there
-damageAfter nothing there = there
+unfoldable pub damageAfter : Option Script → List ℕ → List ℕ
+damageAfter (some s) there = over (s .damage) there
+damageAfter none there = there

@@ -1,6 +1,8 @@
 -- What a text means as a transfer script (document 01, A transfer script): a reader over what is left of the text.
+-- Exactly the texts of right scripts are scripts: `right-read` and `read-right` (proofs/Meaning.antt).
 use Prim.Native.Nat.{ℕ, zero, suc, _+_, _*_, _-_}
 use mathlib.Core.Bool.{Bool, false}
+use mathlib.Core.Option.{Option, none, some}
 use mathlib.Core.List.{List, [], _∷_}
 use lib.Dec.{eqb, leb}
 use lib.ListN.{length, drop, getD}
@@ -53,11 +55,11 @@ numbers (suc n) t = thenRead (after 255 t) (λ x rest. thenRead (numbers n rest)
 unfoldable pub counted : ℕ → List ℕ → Found (List ℕ)
 counted limit t = thenRead (after limit t) numbers
 
--- the settings, after their count, which is 2: 50 in ASCII
 pub record Settings : Type 0 where
   pub object : ℕ
   pub nof : ℕ
 
+-- the settings after their count, which is 2: 50 in ASCII
 unfoldable pub settings : List ℕ → Found Settings
 settings t =
     when (begins 50 t)
@@ -68,9 +70,18 @@ settings t =
 unfoldable pub ends : List ℕ → Bool
 ends t = begins 10 t and eqb (length t) 1
 
--- the script of a whole text, which leaves nothing of it
-unfoldable pub scriptOf : List ℕ → Found Script
-scriptOf t =
+-- a script but for its end
+unfoldable pub sections : List ℕ → Found Script
+sections t =
     thenRead (settings t)
     (λ s t₁. thenRead (counted 8192 t₁) (λ file t₂. thenRead (counted 255 t₂)
-    (λ damage t₃. when (ends t₃) (found (record { object = s .object; nof = s .nof; file = file; damage = damage }) []) nothing)))
+    (λ damage t₃. found (record { object = s .object; nof = s .nof; file = file; damage = damage }) t₃)))
+
+-- a script that its text ends
+abbrev pub ended : Found Script → Option Script
+ended nothing = none
+ended (found s rest) = when (ends rest) (some s) none
+
+-- the script that a whole text is
+unfoldable pub scriptOf : List ℕ → Option Script
+scriptOf t = ended (sections t)

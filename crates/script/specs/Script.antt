@@ -11,9 +11,9 @@ pub record Script : Type 0 where
   -- the sections named
   pub damage : List ℕ
 
-pub data Octets : List ℕ → Type 0 where
-  none : Octets []
-  one : {x : ℕ} {xs : List ℕ} → x ≤ 255 → Octets xs → Octets (x ∷ xs)
+abbrev pub Octets : List ℕ → Type 0
+Octets [] = Unit {0}
+Octets (x ∷ xs) = (x ≤ 255) × Octets xs
 
 -- every number within its field
 pub record Right (s : Script) : Type 0 where

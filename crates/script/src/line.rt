@@ -6,7 +6,7 @@ ghost use mathlib.Core.List.{[], _∷_};
 ghost use Prim.Native.Nat.{_+_, _≤_, _<_};
 ghost use lib.ListN.{length};
 ghost use Rattle.exchange.specs.Lines.{namedSection, qualifier, statedSum};
-ghost use Rattle.script.specs.Decimal.{decimal, spaced};
+ghost use Rattle.script.specs.Decimal.{decimal};
 ghost use Rattle.script.specs.LineText.{sideOf, letterOf, fieldsText, lineText, Put};
 ghost use Rattle.script.specs.Answers.{over};
 

@@ -5,7 +5,7 @@ use asdu::file::Nof;
 ghost use mathlib.Core.Path.{_≡_};
 ghost use mathlib.Core.Bool.{true};
 ghost use Prim.Native.Nat.{_-_, _≤_, _<_};
-ghost use lib.ListN.{length, take, drop, getD};
+ghost use lib.ListN.{length, drop, getD};
 ghost use Rattle.script.specs.Reader.{begins, beginsDigit, more, number, after, numbers, counted, settings, ends, scriptOf};
 ghost use Rattle.script.specs.Answers.{foundAt, octetsAt, Kept, settingsAt, answerOf, Filled, fileAfter, damageAfter};
 

@@ -2,7 +2,7 @@ use mathlib.Core.Path.{sym, _∙_}
 use borrow.Author.Needs.{needs}
 use native.Mathlib.Omega.{arith}
 use Rattle.laws.proofs.Decide.{whens, yes, nay}
-use Rattle.script.specs.Reader.{begins, after}
+use Rattle.script.specs.Reader.{after}
 use Rattle.script.proofs.ReaderLaws.{stands, after-here}
 use Rattle.script.proofs.read.after_at.Statement.{statement}
 use Rattle.script.proofs.read.after_at.Tie as tie

@@ -2,11 +2,10 @@
 use Prim.Native.Nat.{_-_}
 use mathlib.Core.Path.{_≡_, refl, sym, _∙_}
 use borrow.Author.Needs.{needs}
-use native.Mathlib.Omega.{arith}
 use lib.ListN.{length, drop}
 use Rattle.laws.proofs.Decide.{yes-by-not, nay-by-not}
 use Rattle.script.specs.Reader.{more}
-use Rattle.script.proofs.ReaderLaws.{Digit, digit, more-on, more-zero, more-stop, more-over}
+use Rattle.script.proofs.ReaderLaws.{digit, more-on, more-zero, more-stop, more-over}
 use Rattle.script.proofs.read.more_at.Statement.{statement}
 use Rattle.script.proofs.read.more_at.Tie as tie
 
