@@ -50,7 +50,8 @@ impl TwoParty {
             if party.is_over(file) {
                 return party.whole(frames);
             }
-            if budget <= frames {
+            let left = budget - frames;
+            if left == 0 {
                 return RunResult::Spent { frames };
             }
             party = party.advance(file, damage, store);

@@ -1,5 +1,5 @@
-use Rattle.twoparty.specs.Party.{advanced}
 use borrow.Author.Needs.{needs}
+use Rattle.twoparty.specs.Party.{advanced}
 use Rattle.twoparty.proofs.TwoParty.advance.Statement.{statement}
 use Rattle.twoparty.proofs.TwoParty.advance.Tie as tie
 

@@ -1,7 +1,7 @@
-use Rattle.twoparty.specs.Party.{arriving}
 use denote.Ref.{now}
-use Rattle.twoparty.proofs.Reaches.{payload-short}
 use borrow.Author.Needs.{needs}
+use Rattle.twoparty.specs.Party.{arriving}
+use Rattle.twoparty.proofs.Reaches.{payload-short}
 use Rattle.twoparty.proofs.TwoParty.deliver.Statement.{statement}
 use Rattle.twoparty.proofs.TwoParty.deliver.Tie as tie
 

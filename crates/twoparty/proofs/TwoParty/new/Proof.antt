@@ -1,5 +1,5 @@
-use Rattle.twoparty.specs.Party.{partyMade}
 use borrow.Author.Needs.{needs}
+use Rattle.twoparty.specs.Party.{partyMade}
 use Rattle.twoparty.proofs.TwoParty.new.Statement.{statement}
 use Rattle.twoparty.proofs.TwoParty.new.Tie as tie
 

@@ -1,6 +1,6 @@
-use Rattle.twoparty.specs.Party.{nextFrame}
 use borrow.Author.Needs.{needs}
 use Rattle.laws.proofs.Decide.{whens, yes, nay}
+use Rattle.twoparty.specs.Party.{nextFrame}
 use Rattle.twoparty.proofs.TwoParty.next_frame.Statement.{statement}
 use Rattle.twoparty.proofs.TwoParty.next_frame.Tie as tie
 

@@ -3,8 +3,8 @@ use Prim.Native.Nat.{_-_, _≤_}
 use mathlib.Core.Path.{_≡_, refl, _∙_}
 use native.Mathlib.Nat.{sub-zero}
 use native.Mathlib.Omega.{arith}
-use borrow.Author.Needs.{needs}
 use lib.ListN.{length}
+use borrow.Author.Needs.{needs}
 use Rattle.laws.proofs.Decide.{yes, nay}
 use Rattle.twoparty.specs.Party.{ranOn}
 use Rattle.twoparty.proofs.Left.{ran-over, ran-next, ran-spent}
@@ -64,6 +64,7 @@ run-on-spec =
     (λ c κs. search needs)
     (λ c. c .before .before .before .loop .inv .1)
     returns
+    (λ c. search needs)
     (λ c. c .before .before .before .loop .inv .1)
     returns-2
     (λ c κs. search needs)

@@ -1,6 +1,6 @@
-use Rattle.twoparty.specs.Party.{stepped}
 use borrow.Author.Needs.{needs}
 use Rattle.laws.proofs.Decide.{whens, yes, nay}
+use Rattle.twoparty.specs.Party.{stepped}
 use Rattle.twoparty.proofs.TwoParty.step.Statement.{statement}
 use Rattle.twoparty.proofs.TwoParty.step.Tie as tie
 

@@ -1,7 +1,7 @@
 use mathlib.Core.Path.{sym, _∙_}
 use denote.Ref.{now}
-use Rattle.twoparty.proofs.Reaches.{frame-below}
 use borrow.Author.Needs.{needs}
+use Rattle.twoparty.proofs.Reaches.{frame-below}
 use Rattle.twoparty.proofs.TwoParty.to_receiver.Statement.{statement}
 use Rattle.twoparty.proofs.TwoParty.to_receiver.Tie as tie
 

@@ -1,7 +1,7 @@
 use borrow.Author.Tests.{le-leb, lt-leb}
-use Rattle.twoparty.specs.Party.{withProvider}
 use borrow.Author.Needs.{needs}
 use Rattle.laws.proofs.Decide.{whens, yes, nay}
+use Rattle.twoparty.specs.Party.{withProvider}
 use Rattle.twoparty.proofs.TwoParty.with_provider.Statement.{statement}
 use Rattle.twoparty.proofs.TwoParty.with_provider.Tie as tie
 

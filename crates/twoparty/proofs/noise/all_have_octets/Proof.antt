@@ -1,9 +1,9 @@
 -- The entries passed name sections with octets: it is left to those to come.
 use Prim.Native.Nat.{_-_, _≤_}
 use mathlib.Core.Path.{_≡_, refl}
-use borrow.Author.Needs.{needs}
 use native.Mathlib.Omega.{arith}
 use lib.ListN.{length, drop, drop-of-length-le}
+use borrow.Author.Needs.{needs}
 use Rattle.laws.proofs.Decide.{whens, yes-by-not, nay-by-not}
 use Rattle.twoparty.specs.Party.{allHaveOctets}
 use Rattle.twoparty.proofs.Damage.{all-from}

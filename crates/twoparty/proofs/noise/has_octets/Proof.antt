@@ -1,7 +1,7 @@
 use Prim.Native.Nat.{_-_}
 use mathlib.Core.Path.{sym}
-use borrow.Author.Needs.{needs}
 use native.Mathlib.Omega.{arith}
+use borrow.Author.Needs.{needs}
 use Rattle.provide.proofs.Cuts.{product-fits}
 use Rattle.twoparty.proofs.Damage.{none-named, none-of-none, begins-within}
 use Rattle.twoparty.proofs.noise.has_octets.Statement.{statement}

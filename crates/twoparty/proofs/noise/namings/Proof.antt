@@ -1,9 +1,9 @@
 -- The namings counted so far and those of the entries to come are all of them.
 use Prim.Native.Nat.{_+_, _-_, _≤_}
 use mathlib.Core.Path.{_≡_}
-use borrow.Author.Needs.{needs}
 use native.Mathlib.Omega.{arith}
 use lib.ListN.{length, drop, drop-of-length-le}
+use borrow.Author.Needs.{needs}
 use Rattle.exchange.specs.Damaging.{namings}
 use Rattle.twoparty.proofs.Damage.{at-most-one, namings-from}
 use Rattle.twoparty.proofs.noise.namings.Statement.{statement}

@@ -1,9 +1,9 @@
 -- The octets passed are copied; then the first is raised.
 use Prim.Native.Nat.{_-_, _≤_}
 use mathlib.Core.Path.{_≡_, refl}
-use borrow.Author.Needs.{needs}
 use native.Mathlib.Omega.{arith}
 use lib.ListN.{length, take, length-set}
+use borrow.Author.Needs.{needs}
 use Rattle.twoparty.proofs.Damage.{copied-next, copied-all, raised-front, raised-none}
 use Rattle.twoparty.proofs.noise.raise.Statement.{statement}
 use Rattle.twoparty.proofs.noise.raise.Tie as tie

@@ -1,4 +1,3 @@
-use mathlib.Core.Path.{sym, _∙_}
 use borrow.Author.Needs.{needs}
 use Rattle.twoparty.proofs.Whole.{party-run}
 use Rattle.twoparty.proofs.run.run.Statement.{statement}
@@ -15,8 +14,12 @@ run-spec =
     (λ c.
     let r = c .before .before in
     let p = r .before .before .before in
-    let e = sym (p .before .before .new .ensures) ∙ p .party .given .1 in
-    (simp (← party-run, e) (r .run-on .ensures .0), simp (← party-run, e) (r .run-on .ensures .1)))
+    let n = p .before .before in (
+      simp (← party-run, ← (n .new .ensures), p .party .given .1) (r .run-on .ensures .0),
+      simp (← party-run, ← (n .new .ensures), p .party .given .1) (r .run-on .ensures .1),
+    ))
     (λ c. search needs)
     (λ c. search needs)
-    (λ c. let e = sym (c .before .before .before .new .ensures) ∙ c .before .error .given .1 in (simp (← party-run, e), simp (← party-run, e))))
+    (λ c.
+    let n = c .before .before .before in
+    (simp (← party-run, ← (n .new .ensures), c .before .error .given .1), simp (← party-run, ← (n .new .ensures), c .before .error .given .1))))
