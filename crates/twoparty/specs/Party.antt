@@ -7,7 +7,6 @@ use lib.ListN.{length}
 use Rattle.laws.specs.When.{when, unless, _and_}
 use Rattle.asdu.specs.declared.header.Header.{Header}
 use Rattle.asdu.specs.declared.header.UnknownField.the-variants as U
-use Rattle.asdu.specs.declared.error.FtError.{FtError}
 use Rattle.asdu.specs.declared.error.FtError.the-variants as E
 use Rattle.frame.specs.declared.Frame.{Frame}
 use Rattle.ft.specs.Directions.{otherRole}

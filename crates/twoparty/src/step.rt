@@ -30,7 +30,7 @@ ghost use Rattle.provide.specs.declared.FrameResult.the-variants as F;
 ghost use Rattle.receive.specs.Answers.{receive};
 ghost use Rattle.exchange.specs.Damaging.{raised};
 ghost use Rattle.exchange.specs.Exchange.{isSection, isSending};
-ghost use Rattle.twoparty.specs.Party.{afterSending, afterAnswer, fromReply, first, nextFrame, headerBy, replied, afterProvider, toProvider, heard, toReceiver, advanced, stepped};
+ghost use Rattle.twoparty.specs.Party.{afterAnswer, fromReply, first, nextFrame, headerBy, replied, afterProvider, toProvider, heard, toReceiver, advanced, stepped};
 
 // The header of a station's own frame.
 fn header_by(station: FileTransferProcedure, frame: Frame) -> Header
