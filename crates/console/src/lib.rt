@@ -1,0 +1,138 @@
+// A transfer at the console: the script comes from standard input, and what document 01 (A transfer
+// script) prints goes to standard output. What is read, run and printed is proved in `script` and
+// `twoparty`; here nothing is decided.
+use asdu::error::FtError;
+use asdu::sizes::AddressSizes;
+use frame::Frame;
+use ft::direction::Role;
+use libc::STDIN_FILENO;
+use libc::STDOUT_FILENO;
+use script::line;
+use script::line::Sender;
+use script::read;
+use script::read::Outline;
+use script::read::ScriptResult;
+use twoparty::Passing;
+use twoparty::RunResult;
+use twoparty::Settings;
+use twoparty::TwoParty;
+use twoparty::TwoPartyResult;
+use twoparty::run;
+
+// More frames than any script takes.
+const BUDGET: usize = 65535;
+
+fn text(words: &[u8]) {
+    io::write_all(STDOUT_FILENO, words);
+}
+
+fn word_and_number(word: &[u8], n: u64) {
+    text(word);
+    io::print_decimal(STDOUT_FILENO, n);
+    text(b"\n");
+}
+
+// The first octets of a buffer.
+fn front(octets: &[u8], count: usize) -> &[u8] {
+    if count <= octets.len() {
+        return &octets[0..count];
+    }
+    octets
+}
+
+fn refused(error: FtError) {
+    word_and_number(b"refused ", error.number() as u64);
+}
+
+fn settings(script: Outline) -> Settings {
+    let nof = script.nof;
+    Settings {
+        sizes: AddressSizes::CONVENTIONAL,
+        common_address: 1,
+        ioa: script.ioa,
+        nof,
+        role: Role::Controlled,
+    }
+}
+
+fn print_line(out: &[u8; 32], count: usize) {
+    text(front(out, count));
+}
+
+fn print_frame(sender: Sender, frame: Frame) {
+    let mut out = [0u8; 32];
+    let count = line::line(sender, frame, &mut out);
+    print_line(&out, count);
+}
+
+fn print_passing(passing: Passing) {
+    match passing {
+        Passing::Nothing => {}
+        Passing::Provider(frame) => print_frame(Sender::Provider, frame),
+        Passing::Receiver(frame) => print_frame(Sender::Receiver, frame),
+        Passing::Err(error) => refused(error),
+    }
+}
+
+// One frame passes. No step of a transfer that was made is refused.
+fn step(party: TwoParty, file: &[u8], damage: &[u8], store: &mut [u8]) -> TwoParty {
+    match party.step(file, damage, store) {
+        TwoPartyResult::Ok(next) => return next,
+        TwoPartyResult::Err(_) => return party,
+    }
+}
+
+// The frames of a run, one by one.
+fn print_frames(party: TwoParty, file: &[u8], damage: &[u8], store: &mut [u8], frames: usize) {
+    let mut now = party;
+    let mut i = 0;
+    while i < frames {
+        print_passing(now.next_frame(file));
+        now = step(now, file, damage, store);
+        i += 1;
+    }
+}
+
+fn print_run(settings: Settings, file: &[u8], damage: &[u8], frames: usize) {
+    let mut store = [0u8; 8192];
+    match TwoParty::new(settings, file, damage, &store) {
+        TwoPartyResult::Ok(party) => print_frames(party, file, damage, &mut store, frames),
+        TwoPartyResult::Err(error) => refused(error),
+    }
+}
+
+// The run says how it ends and after how many frames; those are printed first.
+fn transfer(settings: Settings, file: &[u8], damage: &[u8]) {
+    let mut store = [0u8; 8192];
+    match run::run(settings, file, damage, &mut store, BUDGET) {
+        RunResult::Whole { length, frames } => {
+            print_run(settings, file, damage, frames);
+            word_and_number(b"whole ", length as u64);
+        }
+        RunResult::Spent { frames } => {
+            print_run(settings, file, damage, frames);
+            text(b"spent\n");
+        }
+        RunResult::Err(error) => refused(error),
+    }
+}
+
+// The script's octets stand in front of the buffers.
+fn play(script: Outline, file: &[u8; 8192], damage: &[u8; 255]) {
+    let octets = front(file, script.file_len);
+    let sections = front(damage, script.damage_len);
+    transfer(settings(script), octets, sections);
+}
+
+// Runs the script on standard input: one line for each frame that passes, then how it ended, or
+// `refused 11` alone. An input longer than the buffer is longer than any script, and so is its front.
+pub fn run() {
+    let mut input = io::large_buffer();
+    let length = io::read_full(STDIN_FILENO, &mut input);
+    let mut file = [0u8; 8192];
+    let mut damage = [0u8; 255];
+    match read::read(&input[..length], &mut file, &mut damage) {
+        ScriptResult::Ok(script) => play(script, &file, &damage),
+        ScriptResult::Err(error) => refused(error),
+    }
+}
