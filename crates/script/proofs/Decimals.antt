@@ -7,7 +7,7 @@ use native.Mathlib.Omega.{arith}
 use lib.Dec.{leb}
 use borrow.Author.Tests.{leb-false, le-leb, lt-leb}
 use Rattle.laws.proofs.Decide.{whens}
-use Rattle.script.specs.Decimal.{digits, decimal}
+use Rattle.script.specs.Decimal.{digitsWithin, decimal}
 
 -- by both results of a test
 pub either : {P : Type 0} (b : Bool) → (b ≡ true → P) → (b ≡ false → P) → P
@@ -15,24 +15,24 @@ either true f g = f refl
 either false f g = g refl
 
 -- room for more digits than there are changes nothing
-digits-any : (k j n : ℕ) → n < k → n < j → digits k n ≡ digits j n
-unfolding digits
+digits-any : (k j n : ℕ) → n < k → n < j → digitsWithin k n ≡ digitsWithin j n
+unfolding digitsWithin
 digits-any zero j n h g = absurd (omega arith)
 digits-any (suc k) zero n h g = absurd (omega arith)
 digits-any (suc k) (suc j) n h g =
     either (leb n 9) (λ e. simp (whens, e))
     (λ e.
     let m : 9 < n = leb-false _ _ e in
-    let same : digits k (n / 10) ≡ digits j (n / 10) = digits-any k j (n / 10) (omega arith) (omega arith) in
+    let same : digitsWithin k (n / 10) ≡ digitsWithin j (n / 10) = digits-any k j (n / 10) (omega arith) (omega arith) in
     simp (whens, e, same))
 
 module _ (n : ℕ) where
   pub decimal-one : n ≤ 9 → decimal n ≡ (48 + n) ∷ []
-  unfolding decimal digits
+  unfolding decimal digitsWithin
   decimal-one h = simp (whens, le-leb _ _ h)
 
   pub decimal-more : 9 < n → decimal n ≡ decimal (n / 10) ++ ((48 + n % 10) ∷ [])
-  unfolding decimal digits
+  unfolding decimal digitsWithin
   decimal-more h = simp (whens, lt-leb _ _ h, digits-any n (suc (n / 10)) (n / 10) (omega arith) (omega arith))
 
 -- one digit more
