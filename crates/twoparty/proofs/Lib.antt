@@ -8,3 +8,4 @@ pub mod Following
 pub mod Named
 pub mod Running
 pub mod Whole
+pub mod Longest
