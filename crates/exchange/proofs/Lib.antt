@@ -7,3 +7,4 @@ pub mod Radio
 pub mod Budget
 pub mod Damaging
 pub mod Script
+pub mod Ordering

@@ -1,6 +1,6 @@
 -- The sections in turn, and the end.
-use Prim.Native.Nat.{ℕ, zero, suc, _+_, _*_, _≤_, _<_}
-use mathlib.Core.Path.{_≡_, refl, sym, ap, _∙_}
+use Prim.Native.Nat.{ℕ, zero, suc, _+_, _-_, _*_, _≤_, _<_}
+use mathlib.Core.Path.{_≡_, refl, sym, ap, _∙_, subst}
 use mathlib.Core.Bool.{true, false}
 use mathlib.Core.List.{List, [], _∷_, _++_, append-assoc}
 use native.Mathlib.Omega.{arith}
@@ -23,6 +23,7 @@ use Rattle.provide.specs.Sections.{sectionLength, sectionCount, segments}
 use Rattle.provide.specs.Replies.{octetsOf, sectionReady, closeFrame}
 use Rattle.provide.specs.Requests.{replying, onAck}
 use Rattle.provide.specs.declared.Reply.the-variants.{SectionReady, Section, FileClose}
+use Rattle.provide.specs.declared.ProviderStep.{ProviderStep}
 use Rattle.provide.specs.declared.ProviderAnswer.{ProviderAnswer}
 use Rattle.provide.proofs.Facts.{requests-section, next-section, no-section, file-accepted}
 use Rattle.provide.proofs.SectionLaws.{enough, section-from}
@@ -36,6 +37,7 @@ use Rattle.receive.specs.declared.ReceiverAnswer.{ReceiverAnswer}
 use Rattle.receive.specs.declared.ReceiverAnswer.the-variants as RA
 use Rattle.exchange.specs.Exchange.{byProvider, byReceiver, Noise, Passing, flown, Exchange, provided, sentBy}
 use Rattle.exchange.specs.Transfer.{Transfer, Sendings, AllDamaged, Intact, arrived, Radio, inOrder, sendingFrames, damagedSendings, providerFrames, receiverFrames}
+use Rattle.exchange.specs.Order.{Meets, AnswersInOrder}
 use Rattle.exchange.proofs.Hearing.{P, R, short, provider-fresh, receiver-fresh, hears-ack}
 use Rattle.exchange.proofs.Steps.{Adds, adds, Ends, Ex, sc, ack, ask, tell, back, asked-sc, asked-ack, takes}
 use Rattle.exchange.proofs.Sendings.{limit, Heard, packets, sent-payloads, sending-passes, accepts, heard-call, damaged-pass}
@@ -59,18 +61,19 @@ module _ (m : Transfer) where
         (λ t′ v′ d. accepts m wide l nos acc o s heard (arrived (x .intact (segments (limit m) o))) (drop (length (arrived (x .intact (segments (limit m) o)))) rest) radio t′ u v′ (ap checksum (good .1))
         (λ t″ d′. rw (good .1) (k t″ (omega arith))))
 
-    pub section-passes : (radio : List Noise) (s : Frame) (rest : List ℕ) (t : List Passing) (u : ProviderAnswer) (v : ReceiverAnswer) → Awaits s nos → length o ≤ length rest
+    pub section-passes : (radio : List Noise) → ((done left : List Noise) → done ++ left ≡ x .damaged → Meets m (nos .value) (left ++ (x .intact ∷ radio)))
+        → (s : Frame) (rest : List ℕ) (t : List Passing) (u : ProviderAnswer) (v : ReceiverAnswer) → Awaits s nos → length o ≤ length rest
         → ((t′ : List Passing) (u′ : ProviderAnswer) → Adds t t′ (1 + (1 + length (x .damaged)) * (divCeil (length o) (limit m) + 1)) (1 + length (x .damaged))
         → Ends m (Ex m (ask m (ack m 3 nos) ∷ []) (ack m 3 nos) l (acc ++ o) [] (drop (length o) rest) radio t′ u′ (RA.Send (ack m 3 nos))))
         → Ends m (Ex m (tell m (sectionReady (P m) (m .file) nos) ∷ []) s l acc [] rest (x .damaged ++ (x .intact ∷ radio)) t u v)
     unfolding onSectionReady when
-    section-passes radio s rest t u v awaits fits k =
+    section-passes radio own s rest t u v awaits fits k =
         takes m s l acc [] rest _ t u v _ []
         (λ t′. Ex m (ask m (sc m 6 nos) ∷ []) (sc m 6 nos) l acc [] rest (x .damaged ++ (x .intact ∷ radio)) t′ u (RA.Send (sc m 6 nos)))
         refl refl (simp (is, le-leb (length o) 0xFFFFFF small)) (awaits _) refl
-        (λ t₁ d₁. asked-sc m (sc m 6 nos) l acc [] rest _ t₁ u _ nos 6 (Section nos) refl (requests-section (P m) nos 0)
+        (λ t₁ d₁. asked-sc m (sc m 6 nos) l acc [] rest _ t₁ u _ nos 6 (Section nos) refl (requests-section (P m) nos 0) (own [] (x .damaged) refl)
         (λ t₂ d₂. rw (is, sent-payloads m nos o)
-        (damaged-pass m wide l nos acc o is (x .intact) radio (x .damaged) (sc m 6 nos) rest t₂ _ _ (heard-call m nos) bad fits
+        (damaged-pass m wide l nos acc o is (x .intact) radio (x .damaged) own [] (x .damaged) refl (sc m 6 nos) rest t₂ _ _ (heard-call m nos) bad fits
         (λ s′ rest′ t₃ u′ v′ heard e b d₃.
         intact-passes radio s′ rest′ t₃ u′ v′ heard (rw e fits) (λ t₄ d₄. rw b (k t₄ u′ (omega arith)))))))
 
@@ -119,10 +122,12 @@ module _ (m : Transfer) where
       → nos ≡ record { value = count } → rest ≡ drop (length (m .file)) (m .store)
       → sentBy byProvider t ≡ providerFrames m → sentBy byReceiver t + 1 ≡ receiverFrames m → Ends m (closed nos rest radio u t)
   ends nos rest radio u t last behind na mb =
-      back m (ask m (ack m 1 nos)) (closed nos rest radio u t) _
-      (ap (provided (m .file) (closed nos rest radio u t) (ask m (ack m 1 nos)) []) (hears-ack m _ nos 1 refl (m .sound t (ask m (ack m 1 nos))) ∙ file-accepted (P m) nos 0)) refl (
+      let heard = hears-ack m (m .headers t (ask m (ack m 1 nos))) nos 1 refl (m .sound t (ask m (ack m 1 nos))) ∙ file-accepted (P m) nos 0 in
+      back m (ask m (ack m 1 nos)) (closed nos rest radio u t) _ (subst (λ (z : ProviderStep). AnswersInOrder m radio (z .answer)) (sym heard) tt)
+      (ap (provided (m .file) (closed nos rest radio u t) (ask m (ack m 1 nos)) []) heard) refl (
         0,
         omega (arith, adds t (ask m (ack m 1 nos))),
+        tt,
         record {
           over = refl;
           provider-complete = refl;
@@ -154,6 +159,13 @@ module _ (m : Transfer) where
   last-fits j rem e is =
       omega (arith, simp length-drop at (ap length is), enough (length (m .file)), ap (λ (k : ℕ). k * size) e)
 
+  -- the noises of section j + 1
+  meets-own : (j : ℕ) (x : Sendings) (xs : List Sendings) → drop j (m .radio) ≡ x ∷ xs → (done left : List Noise) → done ++ left ≡ x .damaged
+      → Meets m (suc j) (left ++ (x .intact ∷ inOrder xs))
+  meets-own j x xs at done left e =
+      let one-less : suc j - 1 ≡ j = omega arith in
+      record { sendings = x; later = xs; done = done; left = left; section = rw one-less at; damaged = sym e; to-come = refl }
+
   -- what is behind the file in the store
   abbrev beyond : List ℕ
   beyond = drop (length (m .file)) (m .store)
@@ -169,22 +181,22 @@ module _ (m : Transfer) where
     mine = (1 + length (x .damaged)) * (divCeil (length (take size rem)) (limit m) + 1)
 
     -- a section that is followed by another
-    one-passes : (radio : List Noise) → suc j < count
+    one-passes : (xs : List Sendings) → drop j (m .radio) ≡ x ∷ xs → suc j < count
         → ((t′ : List Passing) (u′ : ProviderAnswer) (v′ : ReceiverAnswer) → Adds t t′ (1 + mine) (2 + length (x .damaged))
         → Ends m (Ex m (tell m (sectionReady (P m) (m .file) (number (suc j))) ∷ []) (ack m 3 (number j)) (Known (length (m .file))) (acc ++ take size rem) []
-        (drop (length (take size rem)) rest) radio t′ u′ v′))
-        → Ends m (Ex m (tell m (sectionReady (P m) (m .file) (number j)) ∷ []) s (Known (length (m .file))) acc [] rest (x .damaged ++ (x .intact ∷ radio)) t u v)
-    one-passes radio more k =
-        section-passes wide (Known (length (m .file))) (number j) acc (take size rem) (octets-at j rem is) small x bad good radio s rest t u v awaits (simp length-take (omega arith))
-        (λ t₁ u′ d₁. asked-ack m (ack m 3 (number j)) (Known (length (m .file))) (acc ++ take size rem) [] (drop (length (take size rem)) rest) radio t₁ u′ _ (number j) 3 (SectionReady (number (suc j))) refl (next j more)
+        (drop (length (take size rem)) rest) (inOrder xs) t′ u′ v′))
+        → Ends m (Ex m (tell m (sectionReady (P m) (m .file) (number j)) ∷ []) s (Known (length (m .file))) acc [] rest (x .damaged ++ (x .intact ∷ inOrder xs)) t u v)
+    one-passes xs at more k =
+        section-passes wide (Known (length (m .file))) (number j) acc (take size rem) (octets-at j rem is) small x bad good (inOrder xs) (meets-own j x xs at) s rest t u v awaits (simp length-take (omega arith))
+        (λ t₁ u′ d₁. asked-ack m (ack m 3 (number j)) (Known (length (m .file))) (acc ++ take size rem) [] (drop (length (take size rem)) rest) (inOrder xs) t₁ u′ _ (number j) 3 (SectionReady (number (suc j))) refl (next j more) tt
         (λ t₂ d₂. k t₂ _ _ (omega arith)))
 
     -- the last one
-    last-passes : suc j ≡ count → sentBy byProvider t + (2 + mine) ≡ providerFrames m → sentBy byReceiver t + (3 + length (x .damaged)) ≡ receiverFrames m
+    last-passes : drop j (m .radio) ≡ x ∷ [] → suc j ≡ count → sentBy byProvider t + (2 + mine) ≡ providerFrames m → sentBy byReceiver t + (3 + length (x .damaged)) ≡ receiverFrames m
         → Ends m (Ex m (tell m (sectionReady (P m) (m .file) (number j)) ∷ []) s (Known (length (m .file))) acc [] rest (x .damaged ++ (x .intact ∷ [])) t u v)
-    last-passes e na mb =
-        section-passes wide (Known (length (m .file))) (number j) acc (take size rem) (octets-at j rem is) small x bad good [] s rest t u v awaits (simp length-take (omega arith))
-        (λ t₁ u′ d₁. asked-ack m (ack m 3 (number j)) (Known (length (m .file))) (acc ++ take size rem) [] (drop (length (take size rem)) rest) [] t₁ u′ _ (number j) 3 (FileClose (number j)) refl (none-next j e)
+    last-passes at e na mb =
+        section-passes wide (Known (length (m .file))) (number j) acc (take size rem) (octets-at j rem is) small x bad good [] (meets-own j x [] at) s rest t u v awaits (simp length-take (omega arith))
+        (λ t₁ u′ d₁. asked-ack m (ack m 3 (number j)) (Known (length (m .file))) (acc ++ take size rem) [] (drop (length (take size rem)) rest) [] t₁ u′ _ (number j) 3 (FileClose (number j)) refl (none-next j e) tt
         (λ t₂ d₂. rw (take-all size rem (last-fits j rem e is), kept)
         (finish (number j) (drop (length rem) rest) [] t₂ _ _ (ap (λ (n : ℕ). record { value = n }) e) behind (omega arith) (omega arith))))
 
@@ -192,7 +204,7 @@ module _ (m : Transfer) where
   unfoldable pub Pass : ℕ → ℕ → List Sendings → Type 0
   Pass c j xs =
       (acc rem rest : List ℕ) (t : List Passing) (u : ProviderAnswer) (v : ReceiverAnswer) (s : Frame)
-      → j + suc c ≡ count → drop (j * size) (m .file) ≡ rem → acc ++ rem ≡ m .file → length rem ≤ length rest → drop (length rem) rest ≡ beyond → Awaits s (number j)
+      → drop j (m .radio) ≡ xs → j + suc c ≡ count → drop (j * size) (m .file) ≡ rem → acc ++ rem ≡ m .file → length rem ≤ length rest → drop (length rem) rest ≡ beyond → Awaits s (number j)
       → Radio (limit m) (parts (suc c) size rem) xs
       → sentBy byProvider t + (suc c + sendingFrames (limit m) (parts (suc c) size rem) xs) + 1 ≡ providerFrames m
       → sentBy byReceiver t + (2 * suc c + damagedSendings xs) + 1 ≡ receiverFrames m
@@ -200,16 +212,16 @@ module _ (m : Transfer) where
 
   none-said : (c j : ℕ) → Pass c j []
   unfolding Pass
-  none-said c j acc rem rest t u v s e is kept fits behind awaits hit na mb = absurd hit
+  none-said c j acc rem rest t u v s at e is kept fits behind awaits hit na mb = absurd hit
 
   too-many : (j : ℕ) (x y : Sendings) (ys : List Sendings) → Pass 0 j (x ∷ y ∷ ys)
   unfolding Pass
-  too-many j x y ys acc rem rest t u v s e is kept fits behind awaits hit na mb = absurd (hit .2)
+  too-many j x y ys acc rem rest t u v s at e is kept fits behind awaits hit na mb = absurd (hit .2)
 
   last-one : (wide : 0 < limit m) (j : ℕ) (x : Sendings) → Pass 0 j (x ∷ [])
   unfolding Pass
-  last-one wide j x acc rem rest t u v s e is kept fits behind awaits hit na mb =
-      last-passes wide j x acc rem rest t u v s is kept fits behind awaits (hit .0) (hit .1) (omega arith) (omega arith) (omega arith)
+  last-one wide j x acc rem rest t u v s at e is kept fits behind awaits hit na mb =
+      last-passes wide j x acc rem rest t u v s is kept fits behind awaits (hit .0) (hit .1) at (omega arith) (omega arith) (omega arith)
 
   later : (j : ℕ) (rem : List ℕ) → drop (j * size) (m .file) ≡ rem → drop (suc j * size) (m .file) ≡ drop size rem
   later j rem is = simp (suc-mul, ← is, drop-drop)
@@ -217,13 +229,16 @@ module _ (m : Transfer) where
   cut-length : (n : ℕ) (a : List ℕ) → length (take n a) + length (drop n a) ≡ length a
   cut-length n a = sym (length-append (take n a) (drop n a)) ∙ ap length (take-append-drop n a)
 
+  next-sendings : (j : ℕ) (x : Sendings) (xs : List Sendings) → drop j (m .radio) ≡ x ∷ xs → drop (suc j) (m .radio) ≡ xs
+  next-sendings j x xs at = rw (← (add-one j), ← (drop-drop 1 j (m .radio)), at)
+
   one-more : (wide : 0 < limit m) (c j : ℕ) (x : Sendings) (xs : List Sendings) → Pass c (suc j) xs → Pass (suc c) j (x ∷ xs)
   unfolding Pass
-  one-more wide c j x xs others acc rem rest t u v s e is kept fits behind awaits hit na mb =
-      one-passes wide j x acc rem rest t u v s is kept fits behind awaits (hit .0) (hit .1) (inOrder xs) (omega arith)
+  one-more wide c j x xs others acc rem rest t u v s at e is kept fits behind awaits hit na mb =
+      one-passes wide j x acc rem rest t u v s is kept fits behind awaits (hit .0) (hit .1) xs at (omega arith)
       (λ t′ u′ v′ d.
       others (acc ++ take size rem) (drop size rem) (drop (length (take size rem)) rest) t′ u′ v′ (ack m 3 (number j))
-      (omega arith) (later j rem is) (simp (append-assoc, take-append-drop, kept)) (omega (arith, cut-length size rem, length-drop (length (take size rem)) rest))
+      (next-sendings j x xs at) (omega arith) (later j rem is) (simp (append-assoc, take-append-drop, kept)) (omega (arith, cut-length size rem, length-drop (length (take size rem)) rest))
       (rw (drop-drop, cut-length size rem) behind) (awaits-next (number j) (number (suc j))) (hit .2) (omega arith) (omega arith))
 
   pub sections-pass : (wide : 0 < limit m) (c j : ℕ) (xs : List Sendings) → Pass c j xs

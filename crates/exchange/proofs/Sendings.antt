@@ -34,6 +34,7 @@ use Rattle.receive.specs.declared.Sent.the-variants as S
 use Rattle.receive.proofs.Facts.{section-accepted, section-dropped}
 use Rattle.exchange.specs.Exchange.{Fate, lost, arrives, Passing, Noise, flown, payloads, nextSending, sendingsLeft}
 use Rattle.exchange.specs.Transfer.{Transfer, Sending, arrived, Damaged, AllDamaged}
+use Rattle.exchange.specs.Order.{Meets}
 use Rattle.exchange.proofs.Radio.{payloads-behind}
 use Rattle.exchange.proofs.Hearing.{P, R}
 use Rattle.exchange.proofs.Steps.{Adds, Ends, Ex, sc, ack, ask, tell, asked-ack, takes, loses, gains}
@@ -179,19 +180,20 @@ module _ (m : Transfer) where
   module _ (wide : 0 < limit) (l : Length) (nos : Nos) (acc o : List ℕ) (is : octetsOf (P m) (m .file) nos ≡ o) where
     -- a damaged sending passes: nothing is kept of it, and the next one begins
     damaged-one : (radio : List Noise) (x : Noise) (s : Frame) (rest : List ℕ) (t : List Passing) (u : ProviderAnswer) (v : ReceiverAnswer)
-        → Heard s nos → Damaged limit o x → length o ≤ length rest
+        → Meets m (nos .value) radio → Heard s nos → Damaged limit o x → length o ≤ length rest
         → ((t′ : List Passing) → Adds t t′ (divCeil (length o) limit + 1) 1
         → Ends m (Ex m (flown (nextSending true radio (segments limit o)) (packets nos o)) (ack m 4 nos) l acc [] (arrived (x (segments limit o)) ++ drop (length (arrived (x (segments limit o)))) rest)
         (sendingsLeft true radio) t′ (PA.Running (Section nos)) (RA.Send (ack m 4 nos))))
         → Ends m (Ex m (flown (x (segments limit o)) (packets nos o)) s l acc [] rest radio t u v)
-    damaged-one radio x s rest t u v heard bad fits k =
+    damaged-one radio x s rest t u v own heard bad fits k =
         sending-passes wide l nos acc o radio s (x (segments limit o)) rest t u v heard (bad .0) fits
         (λ t′ v′ d. refuses wide l nos acc o s heard (arrived (x (segments limit o))) (drop (length (arrived (x (segments limit o)))) rest) radio t′ u v′ (bad .1)
-        (λ t″ d′. asked-ack m (ack m 4 nos) l acc [] (arrived (x (segments limit o)) ++ drop (length (arrived (x (segments limit o)))) rest) radio t″ u _ nos 4 (Section nos) refl (section-again (P m) nos 0)
+        (λ t″ d′. asked-ack m (ack m 4 nos) l acc [] (arrived (x (segments limit o)) ++ drop (length (arrived (x (segments limit o)))) rest) radio t″ u _ nos 4 (Section nos) refl (section-again (P m) nos 0) own
         (λ t‴ d″. rw (is, sent-payloads nos o) (k t‴ (omega arith)))))
 
     -- all of them, up to the intact one: the store behind the section is as it was
-    pub damaged-pass : (good : Noise) (radio : List Noise) (xs : List Noise) (s : Frame) (rest : List ℕ) (t : List Passing) (u : ProviderAnswer) (v : ReceiverAnswer)
+    pub damaged-pass : (good : Noise) (radio all : List Noise) → ((done left : List Noise) → done ++ left ≡ all → Meets m (nos .value) (left ++ (good ∷ radio)))
+        → (done xs : List Noise) → done ++ xs ≡ all → (s : Frame) (rest : List ℕ) (t : List Passing) (u : ProviderAnswer) (v : ReceiverAnswer)
         → Heard s nos → AllDamaged limit o xs → length o ≤ length rest
         → ((s′ : Frame) (rest′ : List ℕ) (t′ : List Passing) (u′ : ProviderAnswer) (v′ : ReceiverAnswer)
         → Heard s′ nos → length rest′ ≡ length rest → drop (length o) rest′ ≡ drop (length o) rest
@@ -199,12 +201,13 @@ module _ (m : Transfer) where
         → Ends m (Ex m (flown (good (segments limit o)) (packets nos o)) s′ l acc [] rest′ radio t′ u′ v′))
         → Ends m (Ex m (flown (nextSending true (xs ++ (good ∷ radio)) (segments limit o)) (packets nos o)) s l acc [] rest (sendingsLeft true (xs ++ (good ∷ radio))) t u v)
     unfolding segments
-    damaged-pass good radio [] s rest t u v heard bad fits k = k s rest t u v heard refl refl (omega arith)
-    damaged-pass good radio (x ∷ xs) s rest t u v heard bad fits k =
+    damaged-pass good radio all own done [] e s rest t u v heard bad fits k = k s rest t u v heard refl refl (omega arith)
+    damaged-pass good radio all own done (x ∷ xs) e s rest t u v heard bad fits k =
+        let e′ : (done ++ (x ∷ [])) ++ xs ≡ all = append-assoc done (x ∷ []) xs ∙ e in
         let small : length (arrived (x (segments limit o))) ≤ length o = rw (joined-all limit wide o) at (arrived-fits (segments limit o) (x (segments limit o)) (bad .0 .0)) in
         let alike : length (arrived (x (segments limit o)) ++ drop (length (arrived (x (segments limit o)))) rest) ≡ length rest = over-length (arrived (x (segments limit o))) rest (omega arith) in
-        damaged-one (xs ++ (good ∷ radio)) x s rest t u v heard (bad .0) fits
+        damaged-one (xs ++ (good ∷ radio)) x s rest t u v (own (done ++ (x ∷ [])) xs e′) heard (bad .0) fits
         (λ t′ d.
-        damaged-pass good radio xs (ack m 4 nos) (arrived (x (segments limit o)) ++ drop (length (arrived (x (segments limit o)))) rest) t′ _ _ (heard-refusal nos) (bad .1) (rw alike fits)
-        (λ s′ rest′ t″ u′ v′ heard′ e b d′.
-        k s′ rest′ t″ u′ v′ heard′ (e ∙ alike) (b ∙ over-behind (length o) (arrived (x (segments limit o))) rest small) (omega arith)))
+        damaged-pass good radio all own (done ++ (x ∷ [])) xs e′ (ack m 4 nos) (arrived (x (segments limit o)) ++ drop (length (arrived (x (segments limit o)))) rest) t′ _ _ (heard-refusal nos) (bad .1) (rw alike fits)
+        (λ s′ rest′ t″ u′ v′ heard′ g b d′.
+        k s′ rest′ t″ u′ v′ heard′ (g ∙ alike) (b ∙ over-behind (length o) (arrived (x (segments limit o))) rest small) (omega arith)))

@@ -1,5 +1,5 @@
 -- The exchange's steps, one lemma for each kind of frame. Each is told backwards: where the exchange ends well after the step, it does so before it.
-use Prim.Native.Nat.{ℕ, suc, _+_, _≤_}
+use Prim.Native.Nat.{ℕ, zero, suc, _+_, _≤_}
 use mathlib.Core.Path.{_≡_, refl, sym, ap, _∙_, subst}
 use mathlib.Core.Bool.{true, false}
 use mathlib.Core.List.{List, [], _∷_, _++_, append-nil}
@@ -18,6 +18,7 @@ use Rattle.frame.specs.Answers.{answersTo}
 use Rattle.provide.specs.Replies.{bare, segmentPacket, replies}
 use Rattle.provide.specs.Requests.{replying, onSc, onAck}
 use Rattle.provide.specs.declared.Reply.{Reply}
+use Rattle.provide.specs.declared.ProviderStep.{ProviderStep}
 use Rattle.provide.specs.declared.ProviderAnswer.{ProviderAnswer}
 use Rattle.provide.specs.declared.ProviderAnswer.the-variants as PA
 use Rattle.receive.specs.Answers.{onAnswered}
@@ -28,6 +29,7 @@ use Rattle.receive.specs.declared.ReceiverAnswer.the-variants as RA
 use Rattle.receive.proofs.Facts.{segment-taken}
 use Rattle.exchange.specs.Exchange.{Side, byProvider, byReceiver, Fate, lost, arrives, Passing, untouched, isSection, Noise, sendingsLeft, sent, Exchange, provided, taken, step, run, oneBy, sentBy}
 use Rattle.exchange.specs.Transfer.{Transfer, Transferred, providerFrames, receiverFrames}
+use Rattle.exchange.specs.Order.{MeetsOwn, AnswersInOrder, InOrder}
 use Rattle.exchange.proofs.Hearing.{P, R, hears-sc, hears-ack, receiver-hears}
 
 -- t′ has p more frames of the Provider's than t, and r more of the Receiver's
@@ -46,11 +48,16 @@ one-side byProvider = refl
 one-side byReceiver = refl
 
 module _ (m : Transfer) where
+  -- along k steps the sendings are in order
+  abbrev pub Along : ℕ → Exchange → Type 0
+  Along zero e = Unit {0}
+  Along (suc k) e = InOrder m e × Along k (step (m .file) (m .headers) e)
+
   -- the exchange ends well once all frames have passed
   abbrev pub Ends : Exchange → Type 0
   Ends e =
       (k : ℕ) × (k + (sentBy byProvider (e .passed) + sentBy byReceiver (e .passed)) ≡ providerFrames m + receiverFrames m)
-      × Transferred m (run (m .file) (m .headers) k e)
+      × Along k e × Transferred m (run (m .file) (m .headers) k e)
 
   -- an exchange under way: the store is what is accepted, what is under way, and the rest; t was passed
   abbrev pub Ex : List Passing → Frame → Length → List ℕ → List ℕ → List ℕ → List Noise → List Passing → ProviderAnswer → ReceiverAnswer → Exchange
@@ -89,10 +96,11 @@ module _ (m : Transfer) where
   abbrev pub left : Reply → List Noise → List Noise
   left r radio = sendingsLeft (isSection r) radio
 
-  pub back : (x : Passing) (e e′ : Exchange) → step (m .file) (m .headers) e ≡ e′ → e′ .passed ≡ e .passed ++ (x ∷ []) → Ends e′ → Ends e
-  back x e e′ does kept (k, frames, ends) = (
+  pub back : (x : Passing) (e e′ : Exchange) → InOrder m e → step (m .file) (m .headers) e ≡ e′ → e′ .passed ≡ e .passed ++ (x ∷ []) → Ends e′ → Ends e
+  back x e e′ own does kept (k, frames, along, ends) = (
     suc k,
     omega (arith, rw kept at frames, adds (e .passed) x, one-side (x .sender)),
+    (own, subst (λ (z : Exchange). Along k z) (sym does) along),
     subst (λ (z : Exchange). Transferred m (run (m .file) (m .headers) k z)) (sym does) ends,
   )
 
@@ -103,24 +111,26 @@ module _ (m : Transfer) where
     module _ (radio : List Noise) (t : List Passing) (u : ProviderAnswer) (v : ReceiverAnswer) where
       -- the Provider answers a request that keeps it running
       pub asked-sc : (nos : Nos) (action : ℕ) (r : Reply) → leb action 15 ≡ true
-          → onSc (P m) nos (record { action = action; error = 0 }) ≡ replying (P m) r
+          → onSc (P m) nos (record { action = action; error = 0 }) ≡ replying (P m) r → MeetsOwn m radio r
           → ((t′ : List Passing) → Adds t t′ 0 1 → Ends (Ex (queued r radio) s l acc sec rest (left r radio) t′ (PA.Running r) v))
           → Ends (Ex (ask (sc action nos) ∷ []) s l acc sec rest radio t u v)
-      asked-sc nos action r small does k =
-          back (ask (sc action nos)) _ _
+      asked-sc nos action r small does own k =
+          let heard = hears-sc m (m .headers t (ask (sc action nos))) nos action small (m .sound t (ask (sc action nos))) ∙ does in
+          back (ask (sc action nos)) _ _ (subst (λ (z : ProviderStep). AnswersInOrder m radio (z .answer)) (sym heard) own)
           (ap (provided (m .file) (Ex (ask (sc action nos) ∷ []) s l acc sec rest radio t u v) (ask (sc action nos)) [])
-          (hears-sc m _ nos action small (m .sound t (ask (sc action nos))) ∙ does)) refl
+          heard) refl
           (k _ (adds t (ask (sc action nos))))
 
       -- or an acknowledgement
       pub asked-ack : (nos : Nos) (action : ℕ) (r : Reply) → leb action 15 ≡ true
-          → onAck (P m) nos (record { action = action; error = 0 }) ≡ replying (P m) r
+          → onAck (P m) nos (record { action = action; error = 0 }) ≡ replying (P m) r → MeetsOwn m radio r
           → ((t′ : List Passing) → Adds t t′ 0 1 → Ends (Ex (queued r radio) s l acc sec rest (left r radio) t′ (PA.Running r) v))
           → Ends (Ex (ask (ack action nos) ∷ []) s l acc sec rest radio t u v)
-      asked-ack nos action r small does k =
-          back (ask (ack action nos)) _ _
+      asked-ack nos action r small does own k =
+          let heard = hears-ack m (m .headers t (ask (ack action nos))) nos action small (m .sound t (ask (ack action nos))) ∙ does in
+          back (ask (ack action nos)) _ _ (subst (λ (z : ProviderStep). AnswersInOrder m radio (z .answer)) (sym heard) own)
           (ap (provided (m .file) (Ex (ask (ack action nos) ∷ []) s l acc sec rest radio t u v) (ask (ack action nos)) [])
-          (hears-ack m _ nos action small (m .sound t (ask (ack action nos))) ∙ does)) refl
+          heard) refl
           (k _ (adds t (ask (ack action nos))))
 
       -- the Receiver takes a frame that is no segment
@@ -131,7 +141,7 @@ module _ (m : Transfer) where
           → ((t′ : List Passing) → Adds t t′ 1 0 → Ends (e t′))
           → Ends (Ex (tell f ∷ q) s l acc sec rest radio t u v)
       takes f q e side object fits right does k =
-          back (tell f) _ (e (t ++ (tell f ∷ [])))
+          back (tell f) _ (e (t ++ (tell f ∷ []))) tt
           (ap (taken (Ex (tell f ∷ q) s l acc sec rest radio t u v) (tell f) q)
           (receiver-hears m s l _ _ _ [] f _ room (m .sound t (tell f)) side object fits right) ∙ does) (sym (ap (λ (z : Exchange). z .passed) does))
           (k _ (adds t (tell f)))
@@ -140,7 +150,7 @@ module _ (m : Transfer) where
       pub loses : (nos : Nos) (o : List ℕ) (q : List Passing)
           → ((t′ : List Passing) → Adds t t′ 1 0 → Ends (Ex q s l acc sec rest radio t′ u v))
           → Ends (Ex (hit nos o lost ∷ q) s l acc sec rest radio t u v)
-      loses nos o q k = back (hit nos o lost) _ _ refl refl (k _ (adds t (hit nos o lost)))
+      loses nos o q k = back (hit nos o lost) _ _ tt refl refl (k _ (adds t (hit nos o lost)))
 
       -- one that arrives, as x
       pub gains : (nos : Nos) (o x : List ℕ) (q : List Passing) → 1 ≤ length o → length o ≤ segmentLimit (m .provider-station .sizes)
@@ -149,7 +159,7 @@ module _ (m : Transfer) where
           → Ends (Ex (hit nos o (arrives x) ∷ q) s l acc sec rest radio t u v)
       unfolding segmentInRange when
       gains nos o x q some short alike fits right k =
-          back (hit nos o (arrives x)) _ (Ex q s l acc (sec ++ x) (drop (length x) rest) radio (t ++ (hit nos o (arrives x) ∷ [])) u RA.Running)
+          back (hit nos o (arrives x)) _ (Ex q s l acc (sec ++ x) (drop (length x) rest) radio (t ++ (hit nos o (arrives x) ∷ [])) u RA.Running) tt
           (ap (taken (Ex (hit nos o (arrives x) ∷ q) s l acc sec rest radio t u v) (hit nos o (arrives x)) q)
           (receiver-hears m s l _ _ _ x _ _ room (m .sound t (hit nos o (arrives x))) refl refl
           (simp (alike, eq-eqb (length o) (length o) refl, le-leb 1 (length o) some, le-leb (length o) (segmentLimit (m .provider-station .sizes)) short)) right)

@@ -54,13 +54,13 @@ module _ (m : Transfer) where
       → Ends m (Ex m (ask m (sc m 1 none) ∷ []) (sc m 1 none) Unknown [] [] (m .store) (inOrder (m .radio)) [] (PA.Running Nothing) (RA.Send (sc m 1 none)))
   unfolding onFileReady Pass when
   opens c e hit na mb =
-      asked-sc m (sc m 1 none) Unknown [] [] (m .store) (inOrder (m .radio)) [] _ _ none 1 FileReady refl (selects-file (P m) none 0)
+      asked-sc m (sc m 1 none) Unknown [] [] (m .store) (inOrder (m .radio)) [] _ _ none 1 FileReady refl (selects-file (P m) none 0) tt
       (λ t₁ d₁. takes m (sc m 1 none) Unknown [] [] (m .store) (inOrder (m .radio)) t₁ _ _ (fileReady (P m)) []
       (λ t′. Ex m (ask m (sc m 2 none) ∷ []) (sc m 2 none) (Known (length (m .file))) [] [] (m .store) (inOrder (m .radio)) t′ (PA.Running FileReady) (RA.Send (sc m 2 none)))
       refl refl (simp (le-leb (length (m .file)) 0xFFFFFF (short m))) (offers _) refl
-      (λ t₂ d₂. asked-sc m (sc m 2 none) (Known (length (m .file))) [] [] (m .store) (inOrder (m .radio)) t₂ _ _ none 2 (SectionReady (number m 0)) refl (requests-file (P m) none 0)
+      (λ t₂ d₂. asked-sc m (sc m 2 none) (Known (length (m .file))) [] [] (m .store) (inOrder (m .radio)) t₂ _ _ none 2 (SectionReady (number m 0)) refl (requests-file (P m) none 0) tt
       (λ t₃ d₃. sections-pass m fits c 0 (m .radio) [] (m .file) (m .store) t₃ _ _ (sc m 2 none)
-      (omega arith) (rw zero-mul) refl (m .room) refl awaits-first hit (omega arith) (omega arith))))
+      refl (omega arith) (rw zero-mul) refl (m .room) refl awaits-first hit (omega arith) (omega arith))))
 
   begins : (c : ℕ) → count m ≡ c
       → Radio (limit m) (parts c (size m) (m .file)) (m .radio)
@@ -73,7 +73,7 @@ module _ (m : Transfer) where
   made : begun (P m) (R m S.Nothing Unknown 0 0) (m .store) (inOrder (m .radio)) ≡ begun (m .provider) (m .receiver) (m .store) (inOrder (m .radio))
   made = rw (provider-fresh m, receiver-fresh m)
 
-  all-pass : Ends m (begun (m .provider) (m .receiver) (m .store) (inOrder (m .radio)))
+  pub all-pass : Ends m (begun (m .provider) (m .receiver) (m .store) (inOrder (m .radio)))
   unfolding sections
   all-pass = subst (λ (e : Exchange). Ends m e) made (begins (count m) refl (m .damage) refl refl)
 
@@ -81,4 +81,4 @@ pub two-party-transfer : TwoPartyTransfer
 two-party-transfer m =
     let t = all-pass m in
     let steps : t .0 ≡ providerFrames m + receiverFrames m = omega (arith, t .1) in
-    subst (λ (k : ℕ). Transferred m (exchanged m k)) steps (t .2)
+    subst (λ (k : ℕ). Transferred m (exchanged m k)) steps (t .3)

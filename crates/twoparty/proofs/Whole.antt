@@ -24,9 +24,11 @@ use Rattle.provide.proofs.Making.{made}
 use Rattle.receive.specs.declared.Receiver.{Receiver}
 use Rattle.exchange.specs.Exchange.{Side, byProvider, byReceiver, Passing, Exchange}
 use Rattle.exchange.specs.Transfer.{Sound, Transfer, senderOf}
+use Rattle.exchange.specs.Order.{InOrder}
 use Rattle.exchange.specs.Damaging.{scriptRadio}
 use Rattle.exchange.proofs.Budget as B
 use Rattle.exchange.proofs.Damaging.{script-sendings}
+use Rattle.exchange.proofs.Ordering.{in-order}
 use Rattle.twoparty.specs.Party.{stationOf, allHaveOctets, withProvider, partyMade, Ran, ranFrom}
 use Rattle.twoparty.specs.Run.{ownHeaders, exchangeOf, endingBy, ending, twoParty, scriptFrames}
 use Rattle.twoparty.specs.declared.Settings.{Settings}
@@ -66,12 +68,12 @@ module _ (s : Settings) (file damage store : List ℕ) where
 -- ---- the theorem's premises are met
 
 -- both stations use the transfer's direction
-provider-direction : (s : Settings) (r : Role) → s .role ≡ r → serves (stationOf s (s .role)) (s .role) false ≡ true
+pub provider-direction : (s : Settings) (r : Role) → s .role ≡ r → serves (stationOf s (s .role)) (s .role) false ≡ true
 unfolding serves when
 provider-direction s Controlling e = rw e
 provider-direction s Controlled e = rw e
 
-receiver-direction : (s : Settings) (r : Role) → s .role ≡ r → serves (stationOf s (otherRole (s .role))) (otherRole (s .role)) true ≡ true
+pub receiver-direction : (s : Settings) (r : Role) → s .role ≡ r → serves (stationOf s (otherRole (s .role))) (otherRole (s .role)) true ≡ true
 unfolding serves when
 receiver-direction s Controlling e = rw e
 receiver-direction s Controlled e = rw e
@@ -81,14 +83,14 @@ module _ (s : Settings) (file damage store : List ℕ) (a : Accepted s file dama
   unfolding addressed addressRight
   own-address = ltb-true _ _ (both _ _ (both _ _ (both _ _ (a .addresses) .0) .1) .0)
 
-  sound-by : (x : Passing) (side : Side) → Sound (senderOf (stationOf s (s .role)) (stationOf s (otherRole (s .role))) side) (x .packet .frame) (ownHeaders (s .«common_address») [] x)
+  pub sound-by : (x : Passing) (side : Side) → Sound (senderOf (stationOf s (s .role)) (stationOf s (otherRole (s .role))) side) (x .packet .frame) (ownHeaders (s .«common_address») [] x)
   sound-by x byProvider = record { type = refl; cause = refl; originator = refl; positive = refl; common = own-address }
   sound-by x byReceiver = record { type = refl; cause = refl; originator = refl; positive = refl; common = own-address }
 
-  settings : settled (stationOf s (s .role)) ≡ true
+  pub settings : settled (stationOf s (s .role)) ≡ true
   settings = made (stationOf s (s .role)) (s .ioa) (s .nof) (length file) (providing s file damage store) (provider-made s file damage store a) .settings
 
-  unfoldable transfer : Transfer
+  unfoldable pub transfer : Transfer
   transfer =
       record {
         provider-station = stationOf s (s .role);
@@ -138,3 +140,8 @@ module _ (s : Settings) (file damage store : List ℕ) (a : Accepted s file dama
       let m : Transfer = transfer s file damage store a in
       ap (λ (r : Ran). r .result) (accepted-run s file damage store a budget)
       ∙ ending-spent (exchangeOf s file damage store budget) budget (exchangeOf s file damage store budget .queue) refl (B.spent m budget h) (B.spent-frames m budget h)
+
+  -- and after any number of frames, a section's sending that begins meets that section's next noise: the k-th naming damages the k-th sending
+  pub run-in-order : InOrder (transfer s file damage store a) (exchangeOf s file damage store budget)
+  unfolding transfer
+  run-in-order = in-order (transfer s file damage store a) budget
