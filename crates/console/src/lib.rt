@@ -1,11 +1,9 @@
-// A transfer at the console: the script comes from standard input, and what document 01 (A transfer
-// script) prints goes to standard output. What is read, run and printed is proved in `script` and
-// `twoparty`; here nothing is decided.
+// A transfer at the console: what document 01 (A transfer script) prints of a script goes to standard
+// output. What is read, run and printed is proved in `script` and `twoparty`; here nothing is decided.
 use asdu::error::FtError;
 use asdu::sizes::AddressSizes;
 use frame::Frame;
 use ft::direction::Role;
-use libc::STDIN_FILENO;
 use libc::STDOUT_FILENO;
 use script::line;
 use script::line::Sender;
@@ -18,6 +16,10 @@ use twoparty::Settings;
 use twoparty::TwoParty;
 use twoparty::TwoPartyResult;
 use twoparty::run;
+ghost use mathlib.Core.Path.{_≡_};
+ghost use lib.ListN.{take};
+ghost use Rattle.script.specs.Reader.{scriptOf};
+ghost use Rattle.console.specs.Program.{settingsWith, transferred, played};
 
 // More frames than any script takes.
 const BUDGET: usize = 65535;
@@ -33,7 +35,9 @@ fn word_and_number(word: &[u8], n: u64) {
 }
 
 // The first octets of a buffer.
-fn front(octets: &[u8], count: usize) -> &[u8] {
+fn front(octets: &[u8], count: usize) -> &[u8]
+    ensures { λ r. ⌜ now r ≡ take count (now (octets .entry)) ⌝ }
+{
     if count <= octets.len() {
         return &octets[0..count];
     }
@@ -44,7 +48,9 @@ fn refused(error: FtError) {
     word_and_number(b"refused ", error.number() as u64);
 }
 
-fn settings(script: Outline) -> Settings {
+fn settings(script: Outline) -> Settings
+    ensures { λ r. ⌜ r ≡ settingsWith (script .ioa) (script .nof) ⌝ }
+{
     let nof = script.nof;
     Settings {
         sizes: AddressSizes::CONVENTIONAL,
@@ -101,10 +107,9 @@ fn print_run(settings: Settings, file: &[u8], damage: &[u8], frames: usize) {
     }
 }
 
-// The run says how it ends and after how many frames; those are printed first.
-fn transfer(settings: Settings, file: &[u8], damage: &[u8]) {
-    let mut store = [0u8; 8192];
-    match run::run(settings, file, damage, &mut store, BUDGET) {
+// The frames of the run, then how it ended.
+fn print_ending(settings: Settings, file: &[u8], damage: &[u8], ending: RunResult) {
+    match ending {
         RunResult::Whole { length, frames } => {
             print_run(settings, file, damage, frames);
             word_and_number(b"whole ", length as u64);
@@ -117,22 +122,44 @@ fn transfer(settings: Settings, file: &[u8], damage: &[u8]) {
     }
 }
 
-// The script's octets stand in front of the buffers.
-fn play(script: Outline, file: &[u8; 8192], damage: &[u8; 255]) {
-    let octets = front(file, script.file_len);
-    let sections = front(damage, script.damage_len);
-    transfer(settings(script), octets, sections);
+// The run says how it ends and after how many frames.
+fn transfer(settings: Settings, file: &[u8], damage: &[u8], store: &mut [u8]) -> RunResult
+    ensures { λ r. ⌜ (r ≡ transferred settings (now (file .entry)) (now (damage .entry)) (now (store .entry)) .result)
+        × (now (store .exit) ≡ transferred settings (now (file .entry)) (now (damage .entry)) (now (store .entry)) .store) ⌝ }
+{
+    let ending = run::run(settings, file, damage, store, BUDGET);
+    print_ending(settings, file, damage, ending);
+    ending
 }
 
-// Runs the script on standard input: one line for each frame that passes, then how it ended, or
-// `refused 11` alone. An input longer than the buffer is longer than any script, and so is its front.
-pub fn run() {
-    let mut input = io::large_buffer();
-    let length = io::read_full(STDIN_FILENO, &mut input);
+// The script's octets stand in front of the buffers.
+fn play_script(
+    script: Outline,
+    file: &[u8; 8192],
+    damage: &[u8; 255],
+    store: &mut [u8],
+) -> RunResult
+    ensures { λ r. ⌜ (r ≡ transferred (settingsWith (script .ioa) (script .nof)) (take (script .«file_len») (now (file .entry))) (take (script .«damage_len») (now (damage .entry))) (now (store .entry)) .result)
+        × (now (store .exit) ≡ transferred (settingsWith (script .ioa) (script .nof)) (take (script .«file_len») (now (file .entry))) (take (script .«damage_len») (now (damage .entry))) (now (store .entry)) .store) ⌝ }
+{
+    let octets = front(file, script.file_len);
+    let sections = front(damage, script.damage_len);
+    transfer(settings(script), octets, sections, store)
+}
+
+// Runs the script that the text is, into the lent store: prints one line for each frame that passes,
+// then how it ended, or `refused 11` alone. It answers how it ended.
+pub fn play(text: &[u8], store: &mut [u8]) -> RunResult
+    ensures { λ r. ⌜ (r ≡ played (now (store .entry)) (scriptOf (now (text .entry))) .result)
+        × (now (store .exit) ≡ played (now (store .entry)) (scriptOf (now (text .entry))) .store) ⌝ }
+{
     let mut file = [0u8; 8192];
     let mut damage = [0u8; 255];
-    match read::read(&input[..length], &mut file, &mut damage) {
-        ScriptResult::Ok(script) => play(script, &file, &damage),
-        ScriptResult::Err(error) => refused(error),
+    match read::read(text, &mut file, &mut damage) {
+        ScriptResult::Ok(script) => return play_script(script, &file, &damage, store),
+        ScriptResult::Err(error) => {
+            refused(error);
+            return RunResult::Err(error);
+        }
     }
 }
