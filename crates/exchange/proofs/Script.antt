@@ -33,7 +33,7 @@ unfolding maxCommonAddress when
 script-sound before x byProvider = record { type = refl; cause = refl; originator = refl; positive = refl; common = lit< tt }
 script-sound before x byReceiver = record { type = refl; cause = refl; originator = refl; positive = refl; common = lit< tt }
 
-limit-is : segmentLimit conventional ≡ 236
+pub limit-is : segmentLimit conventional ≡ 236
 unfolding segmentLimit elementRoom headerLen
 limit-is = refl
 

@@ -9,11 +9,11 @@ use lib.ListN.{length, take, drop, length-take, length-replicate}
 use borrow.Author.Tests.{eqb-true, ne-eqb}
 use Rattle.laws.specs.When.{when}
 use Rattle.lists.specs.Parts.{divCeil, parts}
-use Rattle.asdu.specs.Sizes.{headerLen, elementRoom, segmentLimit}
 use Rattle.ft.specs.Procedure.{conventional}
 use Rattle.provide.specs.Sections.{sectionLength, sectionCount, sections}
 use Rattle.exchange.specs.Transfer.{Sendings, sendingFrames, damagedSendings}
 use Rattle.exchange.specs.Damaging.{hurt, namings, scriptRadio}
+use Rattle.exchange.proofs.Script.{limit-is}
 use Rattle.twoparty.specs.Run.{scriptFrames}
 use Rattle.twoparty.specs.declared.Settings.{Settings}
 
@@ -80,10 +80,6 @@ sized n h = omega arith
 two-sections : (n : ℕ) → n ≤ 8192 → sectionCount n ≤ 2
 unfolding sectionCount divCeil
 two-sections n h = rw (sized n h) (omega arith)
-
-limit-is : segmentLimit conventional ≡ 236
-unfolding segmentLimit elementRoom headerLen
-limit-is = refl
 
 pub longest : (s : Settings) (file damage : List ℕ) → s .sizes ≡ conventional → length file ≤ 8192 → length damage ≤ 255 → scriptFrames s file damage ≤ 5149
 unfolding scriptFrames sections

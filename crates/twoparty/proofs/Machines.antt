@@ -38,27 +38,28 @@ use Rattle.receive.specs.declared.ReceiverAnswer.the-variants as RA
 use Rattle.receive.specs.declared.ReceiverStep.{ReceiverStep}
 use Rattle.exchange.specs.Exchange.{receiverSends}
 
+-- what holds of both holds of the one that a test chooses
+either : {A : Type 0} (P : A → Type 0) (b : Bool) (x y : A) → P x → P y → P (when b x y)
+unfolding when
+either P true x y h k = h
+either P false x y h k = k
+
 -- ---- the Provider: what ending and counting leave as it is, every frame does
 
 module _ {B : Type 0} (g : Provider → B) (p : Provider) (over : g (ended p) ≡ g p) (more : g (counted p) ≡ g p) where
   record Same (s : ProviderStep) : Type 0 where
     same : g (s .provider) ≡ g p
 
-  either : (b : Bool) (x y : ProviderStep) → Same x → Same y → Same (when b x y)
-  unfolding when
-  either true x y h k = h
-  either false x y h k = k
-
   kept : (s : ProviderStep) → g (s .provider) ≡ g p → Same s
   kept s e = record { same = e }
 
   sc-same : (nos : Nos) (q : Scq) → Same (onSc p nos q)
   unfolding onSc
-  sc-same nos q = either _ _ _ (kept _ refl) (either _ _ _ (kept _ refl) (either _ _ _ (kept _ refl) (either _ _ _ (kept _ refl) (kept _ over))))
+  sc-same nos q = either Same _ _ _ (kept _ refl) (either Same _ _ _ (kept _ refl) (either Same _ _ _ (kept _ refl) (either Same _ _ _ (kept _ refl) (kept _ over))))
 
   ack-same : (nos : Nos) (q : Afq) → Same (onAck p nos q)
   unfolding onAck
-  ack-same nos q = either _ _ _ (kept _ refl) (either _ _ _ (kept _ refl) (either _ _ _ (kept _ over) (kept _ over)))
+  ack-same nos q = either Same _ _ _ (kept _ refl) (either Same _ _ _ (kept _ refl) (either Same _ _ _ (kept _ over) (kept _ over)))
 
   ours-same : (f : Frame) → Same (onOurs p f)
   ours-same (F.FileReady ioa nof lof frq) = kept _ refl
@@ -72,7 +73,7 @@ module _ {B : Type 0} (g : Provider → B) (p : Provider) (over : g (ended p) �
 
   admitted-same : (x : Reaction) → Same (provideAdmitted p x)
   unfolding onRequest
-  admitted-same (A.Requested f) = either _ _ _ (ours-same f) (kept _ more)
+  admitted-same (A.Requested f) = either Same _ _ _ (ours-same f) (kept _ more)
   admitted-same (A.Answered f) = kept _ refl
   admitted-same (A.Refused cause mirror) = kept _ over
   admitted-same (A.Discard why) = kept _ refl
@@ -84,7 +85,7 @@ module _ {B : Type 0} (g : Provider → B) (p : Provider) (over : g (ended p) �
   unfolding provide
   provide-same file h unknown received beside =
       let s : Same (provide p file h unknown received beside) =
-      either _ _ _ (either _ _ _ (kept _ refl) (admitted-same (onAsdu (p .procedure) h unknown received beside))) (kept _ refl) in
+      either Same _ _ _ (either Same _ _ _ (kept _ refl) (admitted-same (onAsdu (p .procedure) h unknown received beside))) (kept _ refl) in
       s .same
 
 -- the station, and the agreement with the file
@@ -103,27 +104,17 @@ module _ (r : Receiver) where
   record Stays (s : ReceiverStep) : Type 0 where
     stays : s .receiver .procedure ≡ r .procedure
 
-  either-step : (b : Bool) (x y : ReceiverStep) → Stays x → Stays y → Stays (when b x y)
-  unfolding when
-  either-step true x y h k = h
-  either-step false x y h k = k
-
   as-it-was : (s : ReceiverStep) → s .receiver .procedure ≡ r .procedure → Stays s
   as-it-was s e = record { stays = e }
 
   close-stays : (store : List ℕ) (nos : Nos) (lsq : Lsq) (chs : Chs) → Stays (onClose r store nos lsq chs)
   unfolding onClose onSectionClose onFileClose
   close-stays store nos lsq chs =
-      either-step _ _ _ (either-step _ _ _ (as-it-was _ refl) (as-it-was _ refl))
-      (either-step _ _ _ (either-step _ _ _ (as-it-was _ refl) (as-it-was _ refl)) (as-it-was _ refl))
+      either Stays _ _ _ (either Stays _ _ _ (as-it-was _ refl) (as-it-was _ refl))
+      (either Stays _ _ _ (either Stays _ _ _ (as-it-was _ refl) (as-it-was _ refl)) (as-it-was _ refl))
 
   record StaysAfter (o : Outcome) : Type 0 where
     after : Stays (o .step)
-
-  either-outcome : (b : Bool) (x y : Outcome) → StaysAfter x → StaysAfter y → StaysAfter (when b x y)
-  unfolding when
-  either-outcome true x y h k = h
-  either-outcome false x y h k = k
 
   with-store : (o : Outcome) → Stays (o .step) → StaysAfter o
   with-store o h = record { after = h }
@@ -133,12 +124,12 @@ module _ (r : Receiver) where
 
   answered-stays : (store payload : List ℕ) (f : Frame) → StaysAfter (onAnswered r store payload f)
   unfolding onFileReady onSectionReady onSegment
-  answered-stays store payload (F.FileReady ioa nof lof frq) = with-store _ (either-step _ _ _ (as-it-was _ refl) (as-it-was _ refl))
-  answered-stays store payload (F.SectionReady ioa nof nos lof srq) = with-store _ (either-step _ _ _ (as-it-was _ refl) (as-it-was _ refl))
+  answered-stays store payload (F.FileReady ioa nof lof frq) = with-store _ (either Stays _ _ _ (as-it-was _ refl) (as-it-was _ refl))
+  answered-stays store payload (F.SectionReady ioa nof nos lof srq) = with-store _ (either Stays _ _ _ (as-it-was _ refl) (as-it-was _ refl))
   answered-stays store payload (F.Sc ioa nof nos scq) = unchanged _ refl
   answered-stays store payload (F.LastSection ioa nof nos lsq chs) = with-store _ (close-stays store nos lsq chs)
   answered-stays store payload (F.Ack ioa nof nos afq) = unchanged _ refl
-  answered-stays store payload (F.Segment ioa nof nos los) = either-outcome _ _ _ (unchanged _ refl) (unchanged _ refl)
+  answered-stays store payload (F.Segment ioa nof nos los) = either StaysAfter _ _ _ (unchanged _ refl) (unchanged _ refl)
   answered-stays store payload (F.Directory ioa cause) = unchanged _ refl
   answered-stays store payload (F.QueryLog ioa nof start stop) = unchanged _ refl
 
@@ -155,7 +146,7 @@ module _ (r : Receiver) where
   unfolding receive
   receive-stays store h unknown received beside =
       let o : StaysAfter (receive r store h unknown received beside) =
-      either-outcome _ _ _ (either-outcome _ _ _ (unchanged _ refl) (reaction-stays store beside (onAnswer (r .procedure) h unknown received beside (awaited r))))
+      either StaysAfter _ _ _ (either StaysAfter _ _ _ (unchanged _ refl) (reaction-stays store beside (onAnswer (r .procedure) h unknown received beside (awaited r))))
       (unchanged (leaving store (stepped r (RA.Err E.RecordMismatch))) refl) in
       o .after .stays
 
@@ -165,22 +156,12 @@ module _ (r : Receiver) (store beside : List ℕ) where
   record Silent (o : Outcome) : Type 0 where
     silent : receiverSends (o .step .answer) ≡ []
 
-  either-silent : (b : Bool) (x y : Outcome) → Silent x → Silent y → Silent (when b x y)
-  unfolding when
-  either-silent true x y h k = h
-  either-silent false x y h k = k
-
   says-nothing : (o : Outcome) → receiverSends (o .step .answer) ≡ [] → Silent o
   says-nothing o e = record { silent = e }
 
   -- a reaction after which the Receiver sends nothing
   record Quiet (x : Reaction) : Type 0 where
     quiet : Silent (receiveAdmitted r store beside x)
-
-  either-quiet : (b : Bool) (x y : Reaction) → Quiet x → Quiet y → Quiet (when b x y)
-  unfolding when
-  either-quiet true x y h k = h
-  either-quiet false x y h k = k
 
   leaves : (x : Reaction) → receiverSends (receiveAdmitted r store beside x .step .answer) ≡ [] → Quiet x
   leaves x e = record { quiet = says-nothing _ e }
@@ -192,11 +173,11 @@ module _ (r : Receiver) (store beside : List ℕ) where
   unserved-quiet : (role : Role) (s : Selection) → Quiet (unservedBy role s)
   unfolding notServed
   unserved-quiet Controlled s = leaves _ refl
-  unserved-quiet Controlling s = either-quiet _ _ _ (leaves _ refl) (leaves _ refl)
+  unserved-quiet Controlling s = either Quiet _ _ _ (leaves _ refl) (leaves _ refl)
 
   matched-quiet : (sent : Frame) (x : Reaction) → Quiet x → Quiet (matched sent x)
   unfolding answered
-  matched-quiet sent (A.Answered f) q = either-quiet _ _ _ q (leaves _ refl)
+  matched-quiet sent (A.Answered f) q = either Quiet _ _ _ q (leaves _ refl)
   matched-quiet sent (A.Requested f) q = q
   matched-quiet sent (A.Refused cause mirror) q = q
   matched-quiet sent (A.Discard why) q = q
@@ -209,22 +190,22 @@ module _ (r : Receiver) (store beside : List ℕ) where
 
     segment-quiet : Quiet (A.Answered segment)
     unfolding onSegment
-    segment-quiet = record { quiet = either-silent _ _ _ (says-nothing _ refl) (says-nothing _ refl) }
+    segment-quiet = record { quiet = either Silent _ _ _ (says-nothing _ refl) (says-nothing _ refl) }
 
     frame-quiet : (p : FileTransferProcedure) → Quiet (admitFrame p h segment beside)
     unfolding admitFrame unserved
     frame-quiet p =
-        either-quiet _ _ _ (either-quiet _ _ _ (either-quiet _ _ _ (leaves _ refl) segment-quiet) (unserved-quiet (p .role) (p .selection))) (leaves _ refl)
+        either Quiet _ _ _ (either Quiet _ _ _ (either Quiet _ _ _ (leaves _ refl) segment-quiet) (unserved-quiet (p .role) (p .selection))) (leaves _ refl)
 
     admission-quiet : (p : FileTransferProcedure) → Quiet (onAsdu p h U.Nothing (D.Frame segment) beside)
     unfolding onAsdu mirrored
     admission-quiet p =
-        either-quiet _ _ _ (either-quiet _ _ _ (either-quiet _ _ _ (either-quiet _ _ _ (either-quiet _ _ _ (leaves _ refl) (leaves _ refl))
-        (either-quiet _ _ _ (unspecified-quiet (p .role) _) (frame-quiet p))) (leaves _ refl)) (leaves _ refl)) (leaves _ refl)
+        either Quiet _ _ _ (either Quiet _ _ _ (either Quiet _ _ _ (either Quiet _ _ _ (either Quiet _ _ _ (leaves _ refl) (leaves _ refl))
+        (either Quiet _ _ _ (unspecified-quiet (p .role) _) (frame-quiet p))) (leaves _ refl)) (leaves _ refl)) (leaves _ refl)
 
     pub segment-silent : receiverSends (receive r store h U.Nothing (D.Frame segment) beside .step .answer) ≡ []
     unfolding receive onAnswer
     segment-silent =
         let o : Silent (receive r store h U.Nothing (D.Frame segment) beside) =
-        either-silent _ _ _ (either-silent _ _ _ (says-nothing _ refl) (matched-quiet (awaited r) _ (admission-quiet (r .procedure)) .quiet)) (says-nothing _ refl) in
+        either Silent _ _ _ (either Silent _ _ _ (says-nothing _ refl) (matched-quiet (awaited r) _ (admission-quiet (r .procedure)) .quiet)) (says-nothing _ refl) in
         o .silent
