@@ -2,11 +2,11 @@
 // output. What is read, run and printed is proved in `script` and `twoparty`; here nothing is decided.
 use asdu::error::FtError;
 use asdu::sizes::AddressSizes;
+use exchange::Sender;
 use frame::Frame;
 use ft::direction::Role;
 use libc::STDOUT_FILENO;
 use script::line;
-use script::line::Sender;
 use script::read;
 use script::read::Outline;
 use script::read::ScriptResult;
@@ -74,8 +74,7 @@ fn print_frame(sender: Sender, frame: Frame) {
 fn print_passing(passing: Passing) {
     match passing {
         Passing::Nothing => {}
-        Passing::Provider(frame) => print_frame(Sender::Provider, frame),
-        Passing::Receiver(frame) => print_frame(Sender::Receiver, frame),
+        Passing::Frame { sender, frame } => print_frame(sender, frame),
         Passing::Err(error) => refused(error),
     }
 }

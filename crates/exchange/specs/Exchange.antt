@@ -19,9 +19,11 @@ use Rattle.provide.specs.Replies.{Packet, bare, replies}
 use Rattle.provide.specs.Requests.{provide}
 use Rattle.receive.specs.declared.Receiver.{Receiver}
 use Rattle.receive.specs.declared.ReceiverAnswer.{ReceiverAnswer}
-use Rattle.receive.specs.declared.ReceiverAnswer.the-variants as R
+use Rattle.receive.specs.declared.ReceiverStep.{ReceiverStep}
+use Rattle.receive.specs.declared.ToSend.{ToSend}
+use Rattle.receive.specs.declared.ToSend.the-variants as T
 use Rattle.receive.specs.Record.{started}
-use Rattle.receive.specs.Answers.{Outcome, receive}
+use Rattle.receive.specs.Answers.{Outcome, receive, toSend}
 
 -- ---- a frame on its way
 
@@ -53,16 +55,12 @@ providerSends p file (P.FileRejected q) = []
 providerSends p file (P.Refused cause mirror) = []
 providerSends p file (P.Err e) = []
 
-abbrev pub receiverSends : ReceiverAnswer → List Packet
-receiverSends R.Running = []
-receiverSends (R.Send f) = bare f ∷ []
-receiverSends (R.Complete ack n) = bare ack ∷ []
-receiverSends (R.FileNotReady frq) = []
-receiverSends (R.SectionNotReady nos srq) = []
-receiverSends (R.FileChecksum ack expected got) = bare ack ∷ []
-receiverSends (R.UnknownLsq lsq) = []
-receiverSends (R.Refused cause mirror) = []
-receiverSends (R.Err e) = []
+abbrev pub packetsOf : ToSend → List Packet
+packetsOf T.Nothing = []
+packetsOf (T.Frame f) = bare f ∷ []
+
+abbrev pub receiverSends : ReceiverStep → List Packet
+receiverSends s = packetsOf (toSend s)
 
 -- ---- the radio
 
@@ -149,7 +147,7 @@ provided file e x rest s =
 abbrev pub taken : Exchange → Passing → List Passing → Outcome → Exchange
 taken e x rest o =
     record {
-      queue = rest ++ map (untouched byReceiver) (receiverSends (o .step .answer));
+      queue = rest ++ map (untouched byReceiver) (receiverSends (o .step));
       provider = e .provider;
       receiver = o .step .receiver;
       store = o .store;
@@ -202,7 +200,7 @@ run file headers (suc k) e = run file headers k (step file headers e)
 abbrev pub begun : Provider → Receiver → List ℕ → List Noise → Exchange
 begun p r store radio =
     record {
-      queue = map (untouched byReceiver) (receiverSends (started r store .answer));
+      queue = map (untouched byReceiver) (receiverSends (started r store));
       provider = p;
       receiver = started r store .receiver;
       store = store;

@@ -4,7 +4,14 @@ use mathlib.Core.List.{List, [], _∷_}
 use Rattle.frame.specs.declared.Frame.{Frame}
 use Rattle.frame.specs.declared.Frame.the-variants as F
 use Rattle.frame.specs.Frames.{typeOf}
-use Rattle.exchange.specs.Exchange.{Side, Passing}
+use Rattle.exchange.specs.Exchange.{Side, byProvider, byReceiver, Passing}
+use Rattle.exchange.specs.declared.Sender.{Sender}
+use Rattle.exchange.specs.declared.Sender.the-variants.{Provider, Receiver}
+
+-- the code's names of the sides
+abbrev pub sideOf : Sender → Side
+sideOf Provider = byProvider
+sideOf Receiver = byReceiver
 
 -- the third field: NOS, or 0
 abbrev pub namedSection : Frame → ℕ

@@ -20,9 +20,10 @@ use Rattle.provide.specs.Record.{providerMade, ended}
 use Rattle.provide.specs.declared.Provider.{Provider}
 use Rattle.provide.specs.declared.ProviderResult.the-variants as PM
 use Rattle.provide.specs.declared.ProviderAnswer.the-variants as P
-use Rattle.receive.specs.Record.{receiverMade, withState, acknowledge}
+use Rattle.receive.specs.Record.{receiverMade, withState}
 use Rattle.receive.specs.declared.Receiver.{Receiver}
 use Rattle.receive.specs.declared.ReceiverResult.the-variants as RM
+use Rattle.receive.specs.declared.Sent.{Sent}
 use Rattle.receive.specs.declared.Sent.the-variants as S
 use Rattle.receive.specs.declared.Length.the-variants.{Known}
 use Rattle.receive.specs.declared.ReceiverAnswer.the-variants as R
@@ -151,9 +152,9 @@ receiverFrames m = 3 + 2 * sectionCount (length (m .file)) + damagedSendings (m 
 abbrev pub exchanged : Transfer → ℕ → Exchange
 exchanged m steps = run (m .file) (m .headers) steps (begun (m .provider) (m .receiver) (m .store) (inOrder (m .radio)))
 
--- the Receiver's last frame: the file is accepted
-abbrev pub accepted : Transfer → Frame
-accepted m = acknowledge (m .receiver) 1 (record { value = sectionCount (length (m .file)) })
+-- what the Receiver sends last: the file is accepted
+abbrev pub accepted : Transfer → Sent
+accepted m = S.Acknowledgement 1 (record { value = sectionCount (length (m .file)) })
 
 pub record Transferred (m : Transfer) (e : Exchange) : Type 0 where
   -- no frame is left
@@ -162,8 +163,8 @@ pub record Transferred (m : Transfer) (e : Exchange) : Type 0 where
   pub provider-complete : e .providerSaid ≡ P.Complete
   pub provider-ended : e .provider ≡ ended (m .provider)
   -- the Receiver names the file's length, and ended holding it
-  pub receiver-complete : e .receiverSaid ≡ R.Complete (accepted m) (length (m .file))
-  pub receiver-ended : e .receiver ≡ withState (m .receiver) (S.Frame (accepted m)) (Known (length (m .file))) (length (m .file)) 0 true
+  pub receiver-complete : e .receiverSaid ≡ R.Complete (length (m .file))
+  pub receiver-ended : e .receiver ≡ withState (m .receiver) (accepted m) (Known (length (m .file))) (length (m .file)) 0 true
   -- the store begins with the file, and behind it is as it was
   pub stored : e .store ≡ m .file ++ drop (length (m .file)) (m .store)
   -- the frames passed, counted for each sender

@@ -67,8 +67,8 @@ unfoldable pub admitFrame : FileTransferProcedure → Header → Frame → List 
 admitFrame p h f beside =
     unless (frameAgrees (p .sizes) h f beside) (Err E.ValueOutOfRange)
     (unless (serves p (otherRole (p .role)) (receiverSide f)) (unserved p)
-    (when (receiverSide f) (Requested f)
-    (Answered f)))
+    (when (receiverSide f) Requested
+    Answered))
 
 -- step 5: undecodable is 10
 abbrev pub admitReceived : FileTransferProcedure → Header → Received → List ℕ → Reaction
@@ -91,17 +91,22 @@ onAsdu p h unknown received beside =
     (admitKnown p h unknown received beside)))))
 
 -- a frame that does not answer the one sent is 23
-unfoldable pub answered : Frame → Frame → Reaction
-answered sent f = unless (answersTo sent f) (Err E.EchoMismatch) (Answered f)
+unfoldable pub matched : Frame → Frame → Reaction
+matched sent f = unless (answersTo sent f) (Err E.EchoMismatch) Answered
 
-abbrev pub matched : Frame → Reaction → Reaction
-matched sent (Answered f) = answered sent f
-matched sent (Requested f) = Requested f
-matched sent (Refused cause mirror) = Refused cause mirror
-matched sent (Discard why) = Discard why
-matched sent Other = Other
-matched sent (Err e) = Err e
+-- what is undecodable is no answer: step 5 has refused it
+abbrev pub answered : Frame → Received → Reaction
+answered sent (R.Frame f) = matched sent f
+answered sent R.Undecodable = Err E.Undecodable
+
+abbrev pub answering : Frame → Received → Reaction → Reaction
+answering sent received Answered = answered sent received
+answering sent received Requested = Requested
+answering sent received (Refused cause mirror) = Refused cause mirror
+answering sent received (Discard why) = Discard why
+answering sent received Other = Other
+answering sent received (Err e) = Err e
 
 -- the same for a station that waits for the answer to a frame it sent
 unfoldable pub onAnswer : FileTransferProcedure → Header → UnknownField → Received → List ℕ → Frame → Reaction
-onAnswer p h unknown received beside sent = matched sent (onAsdu p h unknown received beside)
+onAnswer p h unknown received beside sent = answering sent received (onAsdu p h unknown received beside)

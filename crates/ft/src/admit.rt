@@ -15,7 +15,7 @@ use frame::Frame;
 use frame::answer;
 use frame::range;
 ghost use mathlib.Core.Path.{_≡_};
-ghost use Rattle.ft.specs.Admission.{serves, unspecified, mirrored, frameAgrees, unserved, admitFrame, admitReceived, admitKnown, onAsdu, answered, onAnswer};
+ghost use Rattle.ft.specs.Admission.{serves, unspecified, mirrored, frameAgrees, unserved, admitFrame, admitReceived, admitKnown, onAsdu, matched, answered, onAnswer};
 
 // What came in after the header: a frame, or octets that are none.
 pub enum Received {
@@ -23,12 +23,12 @@ pub enum Received {
     Undecodable,
 }
 
-// What a received frame means, or its numbered refusal.
+// What a received frame means, or its numbered refusal. The frame is the one that was handed in.
 pub enum Reaction {
     // A frame of the receiving side, for the one that provides the file.
-    Requested { frame: Frame },
+    Requested,
     // A frame of the providing side, for the one that receives the file.
-    Answered { frame: Frame },
+    Answered,
     // The other station refused what this one sent, or, with a mirror to send, this one refuses.
     Refused { cause: Cause, mirror: bool },
     // Nothing is to be done, and it may be logged why.
@@ -122,9 +122,9 @@ impl FileTransferProcedure {
             return self.unserved();
         }
         if side {
-            return Reaction::Requested { frame };
+            return Reaction::Requested;
         }
-        Reaction::Answered { frame }
+        Reaction::Answered
     }
 
     // Steps 5 to 7.
@@ -199,8 +199,8 @@ impl FileTransferProcedure {
     {
         let reaction = self.on_asdu(header, unknown, received, beside);
         match reaction {
-            Reaction::Answered { frame } => answered(sent, frame),
-            Reaction::Requested { .. } => reaction,
+            Reaction::Answered => answered(sent, received),
+            Reaction::Requested => reaction,
             Reaction::Refused { .. } => reaction,
             Reaction::Discard(_) => reaction,
             Reaction::Other => reaction,
@@ -209,11 +209,21 @@ impl FileTransferProcedure {
     }
 }
 
-fn answered(sent: Frame, frame: Frame) -> Reaction
-    ensures { λ r. ⌜ r ≡ answered sent frame ⌝ }
+// A frame of the providing side: 23 where it does not answer the one sent.
+fn matched(sent: Frame, frame: Frame) -> Reaction
+    ensures { λ r. ⌜ r ≡ matched sent frame ⌝ }
 {
     if answer::answers(sent, frame) {
-        return Reaction::Answered { frame };
+        return Reaction::Answered;
     }
     Reaction::Err(FtError::EchoMismatch)
+}
+
+fn answered(sent: Frame, received: Received) -> Reaction
+    ensures { λ r. ⌜ r ≡ answered sent received ⌝ }
+{
+    match received {
+        Received::Frame(frame) => matched(sent, frame),
+        Received::Undecodable => Reaction::Err(FtError::Undecodable),
+    }
 }

@@ -17,6 +17,7 @@ use Rattle.frame.specs.Frames.{ioaOf}
 use Rattle.frame.specs.Answers.{nofOf, nofAgree}
 use Rattle.ft.specs.Admission.{onAsdu}
 use Rattle.ft.specs.declared.admit.Received.{Received}
+use Rattle.ft.specs.declared.admit.Received.the-variants as D
 use Rattle.ft.specs.declared.admit.Reaction.{Reaction}
 use Rattle.ft.specs.declared.admit.Reaction.the-variants as A
 use Rattle.provide.specs.Sections.{sectionCount}
@@ -74,21 +75,26 @@ onOurs p (F.QueryLog ioa nof start stop) = replying p Nothing
 unfoldable pub onRequest : Provider → Frame → ProviderStep
 onRequest p f = unless (isOurs p f) (replying (counted p) Nothing) (onOurs p f)
 
+-- a request is a frame: admission has refused what is undecodable
+abbrev pub onRequested : Provider → Received → ProviderStep
+onRequested p (D.Frame f) = onRequest p f
+onRequested p D.Undecodable = replying p Nothing
+
 -- by what admission makes of the frame
-abbrev pub provideAdmitted : Provider → Reaction → ProviderStep
-provideAdmitted p (A.Requested f) = onRequest p f
-provideAdmitted p (A.Answered f) = replying p Nothing
-provideAdmitted p (A.Refused cause mirror) = stepped (ended p) (Refused cause mirror)
-provideAdmitted p (A.Discard why) = replying p Nothing
-provideAdmitted p A.Other = replying p Nothing
-provideAdmitted p (A.Err e) = stepped p (Err e)
+abbrev pub provideAdmitted : Provider → Received → Reaction → ProviderStep
+provideAdmitted p received A.Requested = onRequested p received
+provideAdmitted p received A.Answered = replying p Nothing
+provideAdmitted p received (A.Refused cause mirror) = stepped (ended p) (Refused cause mirror)
+provideAdmitted p received (A.Discard why) = replying p Nothing
+provideAdmitted p received A.Other = replying p Nothing
+provideAdmitted p received (A.Err e) = stepped p (Err e)
 
 -- one frame handed to the Provider: 26 first, then a done record is answered with nothing
 unfoldable pub provide : Provider → List ℕ → Header → UnknownField → Received → List ℕ → ProviderStep
 provide p file h unknown received beside =
     unless (fileAgrees p file) (stepped p (Err E.RecordMismatch))
     (when (p .done) (replying p Nothing)
-    (provideAdmitted p (onAsdu (p .procedure) h unknown received beside)))
+    (provideAdmitted p received (onAsdu (p .procedure) h unknown received beside)))
 
 -- whether an answer is a numbered refusal
 abbrev pub isRefusal : ProviderAnswer → Bool

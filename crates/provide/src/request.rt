@@ -22,7 +22,7 @@ ghost use mathlib.Core.Path.{_≡_};
 ghost use Rattle.frame.specs.Answers.{nofAgree};
 ghost use Rattle.frame.specs.declared.answer.SomeNof.the-variants as N;
 ghost use Rattle.provide.specs.Record.{ended};
-ghost use Rattle.provide.specs.Requests.{stepped, replying, onSc, after, onAck, isOurs, onOurs, onRequest, provideAdmitted, provide};
+ghost use Rattle.provide.specs.Requests.{stepped, replying, onSc, after, onAck, isOurs, onOurs, onRequest, onRequested, provideAdmitted, provide};
 ghost use Rattle.provide.specs.declared.Reply.the-variants.{Nothing};
 ghost use Rattle.provide.specs.declared.ProviderAnswer.the-variants.{Refused, Err};
 
@@ -151,13 +151,23 @@ impl Provider {
         self.counted().nothing()
     }
 
+    // A request is a frame: what is undecodable is refused before.
+    fn on_requested(self, received: Received) -> ProviderStep
+        ensures { λ r. ⌜ r ≡ onRequested self received ⌝ }
+    {
+        match received {
+            Received::Frame(frame) => self.on_request(frame),
+            Received::Undecodable => self.nothing(),
+        }
+    }
+
     // By what admission makes of the frame.
-    fn on_reaction(self, reaction: Reaction) -> ProviderStep
-        ensures { λ r. ⌜ r ≡ provideAdmitted self reaction ⌝ }
+    fn on_reaction(self, received: Received, reaction: Reaction) -> ProviderStep
+        ensures { λ r. ⌜ r ≡ provideAdmitted self received reaction ⌝ }
     {
         match reaction {
-            Reaction::Requested { frame } => self.on_request(frame),
-            Reaction::Answered { .. } => self.nothing(),
+            Reaction::Requested => self.on_requested(received),
+            Reaction::Answered => self.nothing(),
             Reaction::Refused { cause, mirror } => self.refused(cause, mirror),
             Reaction::Discard(_) => self.nothing(),
             Reaction::Other => self.nothing(),
@@ -184,6 +194,7 @@ impl Provider {
         if self.done {
             return self.nothing();
         }
-        self.on_reaction(procedure.on_asdu(header, unknown, received, beside))
+        let reaction = procedure.on_asdu(header, unknown, received, beside);
+        self.on_reaction(received, reaction)
     }
 }

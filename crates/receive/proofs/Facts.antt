@@ -21,8 +21,9 @@ use Rattle.ft.specs.Checksum.{checksum}
 use Rattle.ft.specs.Admission.{onAnswer}
 use Rattle.ft.specs.declared.admit.Received.{Received}
 use Rattle.ft.specs.declared.admit.Reaction.the-variants as A
-use Rattle.receive.specs.Record.{storeAgrees, holding, acknowledge, awaited, stepped}
+use Rattle.receive.specs.Record.{storeAgrees, holding, awaited, stepped}
 use Rattle.receive.specs.Answers.{asks, closing, leaving, onSectionClose, onFileClose, onSegment, onAnswered, receive}
+use Rattle.receive.specs.declared.Sent.the-variants.{Acknowledgement}
 use Rattle.receive.specs.declared.Receiver.{Receiver}
 use Rattle.receive.specs.declared.ReceiverAnswer.the-variants.{Running, Complete, FileChecksum, Err}
 use Rattle.receive.proofs.StoreLaws.{written-after, staged-part, kept-part}
@@ -41,29 +42,29 @@ module _ (r : Receiver) (acc sec rest : List ℕ) (kept : r .kept ≡ length acc
   -- a section's close: the sum of what is under way accepts it, any other drops it
   pub section-close : (nos : Nos) (chs : Chs)
       → onSectionClose r store nos chs
-      ≡ when (eqb (checksum sec) (chs .value)) (asks (holding r (length acc + length sec) 0) (acknowledge r 3 nos))
-      (asks (holding r (length acc) 0) (acknowledge r 4 nos))
+      ≡ when (eqb (checksum sec) (chs .value)) (asks (holding r (length acc + length sec) 0) (Acknowledgement 3 nos))
+      (asks (holding r (length acc) 0) (Acknowledgement 4 nos))
   unfolding onSectionClose
   section-close nos chs = simp (kept, staged, staged-part acc sec rest)
 
   pub section-accepted : (nos : Nos) (chs : Chs) → checksum sec ≡ chs .value
-      → onSectionClose r store nos chs ≡ asks (holding r (length acc + length sec) 0) (acknowledge r 3 nos)
+      → onSectionClose r store nos chs ≡ asks (holding r (length acc + length sec) 0) (Acknowledgement 3 nos)
   section-accepted nos chs e = section-close nos chs ∙ when-true _ _ _ (eq-eqb (checksum sec) (chs .value) e)
 
   pub section-dropped : (nos : Nos) (chs : Chs) → checksum sec ≢ chs .value
-      → onSectionClose r store nos chs ≡ asks (holding r (length acc) 0) (acknowledge r 4 nos)
+      → onSectionClose r store nos chs ≡ asks (holding r (length acc) 0) (Acknowledgement 4 nos)
   section-dropped nos chs e = section-close nos chs ∙ when-false _ _ _ (ne-eqb (checksum sec) (chs .value) e)
 
   -- the file's close: the sum of what is accepted, whatever is under way
   pub file-close : (nos : Nos) (chs : Chs)
       → onFileClose r store nos chs
-      ≡ when (eqb (checksum acc) (chs .value)) (stepped (closing r (acknowledge r 1 nos)) (Complete (acknowledge r 1 nos) (length acc)))
-      (stepped (closing r (acknowledge r 2 nos)) (FileChecksum (acknowledge r 2 nos) (record { value = checksum acc }) chs))
+      ≡ when (eqb (checksum acc) (chs .value)) (stepped (closing r (Acknowledgement 1 nos)) (Complete (length acc)))
+      (stepped (closing r (Acknowledgement 2 nos)) (FileChecksum (record { value = checksum acc }) chs))
   unfolding onFileClose
   file-close nos chs = simp (kept, kept-part acc sec rest)
 
   pub file-accepted : (nos : Nos) (chs : Chs) → checksum acc ≡ chs .value
-      → onFileClose r store nos chs ≡ stepped (closing r (acknowledge r 1 nos)) (Complete (acknowledge r 1 nos) (length acc))
+      → onFileClose r store nos chs ≡ stepped (closing r (Acknowledgement 1 nos)) (Complete (length acc))
   file-accepted nos chs e = file-close nos chs ∙ when-true _ _ _ (eq-eqb (checksum acc) (chs .value) e)
 
   -- a segment is written behind what is under way where the rest can take it, and is refused exactly where it cannot

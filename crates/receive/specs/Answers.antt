@@ -19,46 +19,51 @@ use Rattle.frame.specs.declared.Frame.the-variants as F
 use Rattle.ft.specs.Checksum.{checksum}
 use Rattle.ft.specs.Admission.{onAnswer}
 use Rattle.ft.specs.declared.admit.Received.{Received}
+use Rattle.ft.specs.declared.admit.Received.the-variants as D
 use Rattle.ft.specs.declared.admit.Reaction.{Reaction}
 use Rattle.ft.specs.declared.admit.Reaction.the-variants as A
-use Rattle.receive.specs.Record.{storeAgrees, sending, holding, stating, ended, keptOctets, stagedOctets, written, request, acknowledge, awaited, stepped}
+use Rattle.receive.specs.Record.{storeAgrees, sending, holding, stating, ended, keptOctets, stagedOctets, written, awaited, stepped}
+use Rattle.receive.specs.declared.Sent.{Sent}
+use Rattle.receive.specs.declared.Sent.the-variants.{Request, Acknowledgement}
 use Rattle.receive.specs.declared.Receiver.{Receiver}
 use Rattle.receive.specs.declared.ReceiverStep.{ReceiverStep}
+use Rattle.receive.specs.declared.ToSend.{ToSend}
+use Rattle.receive.specs.declared.ToSend.the-variants as T
 use Rattle.receive.specs.declared.ReceiverAnswer.{ReceiverAnswer}
 use Rattle.receive.specs.declared.ReceiverAnswer.the-variants.{Running, Send, Complete, FileNotReady, SectionNotReady, FileChecksum, UnknownLsq, Refused, Err}
 
 -- ---- steps that leave the store as it is
 
 -- a frame goes out, and its answer is awaited
-abbrev pub asks : Receiver → Frame → ReceiverStep
-asks r f = stepped (sending r f) (Send f)
+abbrev pub asks : Receiver → Sent → ReceiverStep
+asks r s = stepped (sending r s) Send
 
 -- the file is ready, or it is not; its length is recorded
 unfoldable pub onFileReady : Receiver → Lof → Frq → ReceiverStep
 onFileReady r lof frq =
-    when (frq .«negative_confirm») (stepped (ended r) (FileNotReady frq)) (asks (stating r (lof .value)) (request r 2 (record { value = 0 })))
+    when (frq .«negative_confirm») (stepped (ended r) (FileNotReady frq)) (asks (stating r (lof .value)) (Request 2 (record { value = 0 })))
 
 -- a section is ready, or it is not; one under way is dropped
 unfoldable pub onSectionReady : Receiver → Nos → Srq → ReceiverStep
 onSectionReady r nos srq =
-    when (srq .«not_ready») (stepped (ended r) (SectionNotReady nos srq)) (asks (holding r (r .kept) 0) (request r 6 nos))
+    when (srq .«not_ready») (stepped (ended r) (SectionNotReady nos srq)) (asks (holding r (r .kept) 0) (Request 6 nos))
 
 -- a section's close: an equal sum accepts the section, another drops it
 unfoldable pub onSectionClose : Receiver → List ℕ → Nos → Chs → ReceiverStep
 onSectionClose r store nos chs =
-    when (eqb (checksum (stagedOctets r store)) (chs .value)) (asks (holding r (r .kept + r .staged) 0) (acknowledge r 3 nos))
-    (asks (holding r (r .kept) 0) (acknowledge r 4 nos))
+    when (eqb (checksum (stagedOctets r store)) (chs .value)) (asks (holding r (r .kept + r .staged) 0) (Acknowledgement 3 nos))
+    (asks (holding r (r .kept) 0) (Acknowledgement 4 nos))
 
 -- the transfer is over: a section under way is dropped, and the accepted count stays
-abbrev pub closing : Receiver → Frame → Receiver
+abbrev pub closing : Receiver → Sent → Receiver
 closing r ack = ended (sending (holding r (r .kept) 0) ack)
 
 -- the file's close: the sum of the accepted octets only
 unfoldable pub onFileClose : Receiver → List ℕ → Nos → Chs → ReceiverStep
 onFileClose r store nos chs =
     when (eqb (checksum (keptOctets r store)) (chs .value))
-    (stepped (closing r (acknowledge r 1 nos)) (Complete (acknowledge r 1 nos) (r .kept)))
-    (stepped (closing r (acknowledge r 2 nos)) (FileChecksum (acknowledge r 2 nos) (record { value = checksum (keptOctets r store) }) chs))
+    (stepped (closing r (Acknowledgement 1 nos)) (Complete (r .kept)))
+    (stepped (closing r (Acknowledgement 2 nos)) (FileChecksum (record { value = checksum (keptOctets r store) }) chs))
 
 -- by LSQ: 3 and 4 close a section, 1 and 2 the file; any other ends the transfer
 unfoldable pub onClose : Receiver → List ℕ → Nos → Lsq → Chs → ReceiverStep
@@ -92,30 +97,53 @@ onAnswered r store payload (F.Segment ioa nof nos los) = onSegment r store paylo
 onAnswered r store payload (F.Directory ioa cause) = leaving store (stepped r Running)
 onAnswered r store payload (F.QueryLog ioa nof start stop) = leaving store (stepped r Running)
 
+-- an answer is a frame: admission has refused what is undecodable
+abbrev pub onReceived : Receiver → List ℕ → List ℕ → Received → Outcome
+onReceived r store payload (D.Frame f) = onAnswered r store payload f
+onReceived r store payload D.Undecodable = leaving store (stepped r Running)
+
 -- by what admission makes of the frame
-abbrev pub receiveAdmitted : Receiver → List ℕ → List ℕ → Reaction → Outcome
-receiveAdmitted r store payload (A.Requested f) = leaving store (stepped r Running)
-receiveAdmitted r store payload (A.Answered f) = onAnswered r store payload f
-receiveAdmitted r store payload (A.Refused cause mirror) = leaving store (stepped (ended r) (Refused cause mirror))
-receiveAdmitted r store payload (A.Discard why) = leaving store (stepped r Running)
-receiveAdmitted r store payload A.Other = leaving store (stepped r Running)
-receiveAdmitted r store payload (A.Err e) = leaving store (stepped r (Err e))
+abbrev pub receiveAdmitted : Receiver → List ℕ → List ℕ → Received → Reaction → Outcome
+receiveAdmitted r store payload received A.Requested = leaving store (stepped r Running)
+receiveAdmitted r store payload received A.Answered = onReceived r store payload received
+receiveAdmitted r store payload received (A.Refused cause mirror) = leaving store (stepped (ended r) (Refused cause mirror))
+receiveAdmitted r store payload received (A.Discard why) = leaving store (stepped r Running)
+receiveAdmitted r store payload received A.Other = leaving store (stepped r Running)
+receiveAdmitted r store payload received (A.Err e) = leaving store (stepped r (Err e))
 
 -- one frame handed to the Receiver, with what stands beside it: 26 first, then a done record is answered with nothing, then admission with 23; 24 last
 unfoldable pub receive : Receiver → List ℕ → Header → UnknownField → Received → List ℕ → Outcome
 receive r store h unknown received beside =
     unless (storeAgrees r store) (leaving store (stepped r (Err E.RecordMismatch)))
     (when (r .done) (leaving store (stepped r Running))
-    (receiveAdmitted r store beside (onAnswer (r .procedure) h unknown received beside (awaited r))))
+    (receiveAdmitted r store beside received (onAnswer (r .procedure) h unknown received beside (awaited r))))
+
+-- ---- what a step sends
+
+-- whether a frame goes out with an answer
+abbrev pub sends : ReceiverAnswer → Bool
+sends Running = false
+sends Send = true
+sends (Complete n) = true
+sends (FileNotReady frq) = false
+sends (SectionNotReady nos srq) = false
+sends (FileChecksum expected got) = true
+sends (UnknownLsq lsq) = false
+sends (Refused cause mirror) = false
+sends (Err e) = false
+
+-- it is the one whose answer the record now awaits
+unfoldable pub toSend : ReceiverStep → ToSend
+toSend s = when (sends (s .answer)) (T.Frame (awaited (s .receiver))) T.Nothing
 
 -- whether an answer is a numbered refusal
 abbrev pub isRefusal : ReceiverAnswer → Bool
 isRefusal Running = false
-isRefusal (Send f) = false
-isRefusal (Complete ack n) = false
+isRefusal Send = false
+isRefusal (Complete n) = false
 isRefusal (FileNotReady frq) = false
 isRefusal (SectionNotReady nos srq) = false
-isRefusal (FileChecksum ack expected got) = false
+isRefusal (FileChecksum expected got) = false
 isRefusal (UnknownLsq lsq) = false
 isRefusal (Refused cause mirror) = false
 isRefusal (Err e) = true

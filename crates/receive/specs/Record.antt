@@ -54,9 +54,9 @@ abbrev pub withState : Receiver → Sent → Length → ℕ → ℕ → Bool →
 withState r sent len kept staged done =
     record { procedure = r .procedure; ioa = r .ioa; nof = r .nof; sent = sent; length = len; kept = kept; staged = staged; done = done }
 
--- another frame's answer is awaited
-abbrev pub sending : Receiver → Frame → Receiver
-sending r f = withState r (S.Frame f) (r .length) (r .kept) (r .staged) (r .done)
+-- the answer to another is awaited
+abbrev pub sending : Receiver → Sent → Receiver
+sending r s = withState r s (r .length) (r .kept) (r .staged) (r .done)
 
 -- so many octets are accepted and under way
 abbrev pub holding : Receiver → ℕ → ℕ → Receiver
@@ -91,17 +91,22 @@ request r action nos = F.Sc (r .ioa) (r .nof) nos (record { action = action; err
 abbrev pub acknowledge : Receiver → ℕ → Nos → Frame
 acknowledge r action nos = F.Ack (r .ioa) (r .nof) nos (record { action = action; error = 0 })
 
--- the select that opens the transfer
+-- the select that opens the transfer, as what is sent and as a frame
+abbrev pub opening : Sent
+opening = S.Request 1 (record { value = 0 })
+
 abbrev pub select : Receiver → Frame
 select r = request r 1 (record { value = 0 })
 
--- the frame whose answer is awaited: before a start an offered file ready opens the transfer, as an answer to a select would
-abbrev pub awaitedAfter : Receiver → Sent → Frame
-awaitedAfter r S.Nothing = select r
-awaitedAfter r (S.Frame f) = f
+-- the frame of what was sent of a file; where nothing was, the select: an offered file ready opens the transfer as an answer to it would
+abbrev pub frameOf : ℕ → Nof → Sent → Frame
+frameOf ioa nof S.Nothing = F.Sc ioa nof (record { value = 0 }) (record { action = 1; error = 0 })
+frameOf ioa nof (S.Request action nos) = F.Sc ioa nof nos (record { action = action; error = 0 })
+frameOf ioa nof (S.Acknowledgement action nos) = F.Ack ioa nof nos (record { action = action; error = 0 })
 
+-- the frame whose answer is awaited
 unfoldable pub awaited : Receiver → Frame
-awaited r = awaitedAfter r (r .sent)
+awaited r = frameOf (r .ioa) (r .nof) (r .sent)
 
 -- ---- the start
 
@@ -109,7 +114,7 @@ abbrev pub stepped : Receiver → ReceiverAnswer → ReceiverStep
 stepped r a = record { receiver = r; answer = a }
 
 abbrev pub startedWith : Receiver → AsduResult → ReceiverStep
-startedWith r (A.Ok a) = stepped (sending r (a .frame)) (R.Send (a .frame))
+startedWith r (A.Ok a) = stepped (sending r opening) R.Send
 startedWith r (A.Err e) = stepped r (R.Err e)
 
 -- 26, then what `build` refuses of the select; a done record starts too, and nothing but what was sent changes

@@ -2,6 +2,7 @@
 use crate::Receiver;
 use crate::ReceiverAnswer;
 use crate::ReceiverStep;
+use crate::Sent;
 use crate::store;
 use asdu::error::FtError;
 use asdu::file::Afq;
@@ -25,7 +26,7 @@ ghost use lib.ListN.{length};
 ghost use Rattle.laws.specs.When.{_or_};
 ghost use Rattle.ft.specs.Checksum.{checksum};
 ghost use Rattle.receive.specs.Record.{keptOctets, stagedOctets, stepped};
-ghost use Rattle.receive.specs.Answers.{onFileReady, onSectionReady, onSectionClose, closing, onFileClose, onClose, onSegment, onAnswered, receiveAdmitted, receive};
+ghost use Rattle.receive.specs.Answers.{onFileReady, onSectionReady, onSectionClose, closing, onFileClose, onClose, onSegment, onAnswered, onReceived, receiveAdmitted, receive};
 
 // Whether the frame closes a section (7.2.6.31).
 fn closes_section(lsq: Lsq) -> bool
@@ -56,7 +57,10 @@ impl Receiver {
             return self.ends(ReceiverAnswer::FileNotReady { frq });
         }
         let next = self.stating(lof.value);
-        next.asks(self.request(Scq::REQUEST_FILE, Nos { value: 0 }))
+        next.asks(Sent::Request {
+            action: Scq::REQUEST_FILE,
+            nos: Nos { value: 0 },
+        })
     }
 
     // A section is ready and is called, or it is not. One under way is dropped.
@@ -68,7 +72,10 @@ impl Receiver {
         }
         let mut next = self;
         next.staged = 0;
-        next.asks(self.request(Scq::REQUEST_SECTION, nos))
+        next.asks(Sent::Request {
+            action: Scq::REQUEST_SECTION,
+            nos,
+        })
     }
 
     // A section's close: where the sum of the section under way is the stated one it is accepted,
@@ -81,14 +88,20 @@ impl Receiver {
         next.staged = 0;
         if sum.value == chs.value {
             next.kept = self.kept + self.staged;
-            return next.asks(self.acknowledge(Afq::SECTION_POSITIVE, nos));
+            return next.asks(Sent::Acknowledgement {
+                action: Afq::SECTION_POSITIVE,
+                nos,
+            });
         }
-        next.asks(self.acknowledge(Afq::SECTION_NEGATIVE, nos))
+        next.asks(Sent::Acknowledgement {
+            action: Afq::SECTION_NEGATIVE,
+            nos,
+        })
     }
 
     // The file's close: a section under way is dropped, the acknowledgement goes out and the transfer
     // is over.
-    fn closes(self, ack: Frame, answer: ReceiverAnswer) -> ReceiverStep
+    fn closes(self, ack: Sent, answer: ReceiverAnswer) -> ReceiverStep
         ensures { λ r. ⌜ r ≡ stepped (closing self ack) answer ⌝ }
     {
         let mut last = self;
@@ -105,15 +118,20 @@ impl Receiver {
         ensures { λ r. ⌜ ((store : List ℕ) → sum .value ≡ checksum (keptOctets self store) → r ≡ onFileClose self store nos chs) ⌝ }
     {
         if sum.value == chs.value {
-            let ack = self.acknowledge(Afq::FILE_POSITIVE, nos);
+            let ack = Sent::Acknowledgement {
+                action: Afq::FILE_POSITIVE,
+                nos,
+            };
             let length = self.kept;
-            return self.closes(ack, ReceiverAnswer::Complete { ack, length });
+            return self.closes(ack, ReceiverAnswer::Complete { length });
         }
-        let ack = self.acknowledge(Afq::FILE_NEGATIVE, nos);
+        let ack = Sent::Acknowledgement {
+            action: Afq::FILE_NEGATIVE,
+            nos,
+        };
         self.closes(
             ack,
             ReceiverAnswer::FileChecksum {
-                ack,
                 expected: sum,
                 got: chs,
             },
@@ -168,14 +186,31 @@ impl Receiver {
         }
     }
 
-    // By what admission makes of the frame.
-    fn on_admitted(self, store: &mut [u8], payload: &[u8], reaction: Reaction) -> ReceiverStep
+    // An answer is a frame: what is undecodable is refused before.
+    fn on_received(self, store: &mut [u8], payload: &[u8], received: Received) -> ReceiverStep
         requires { ⌜ self .kept + self .staged ≤ length (now store) ⌝ }
-        ensures { λ r. ⌜ (r ≡ receiveAdmitted self (now (store .entry)) (now (payload .entry)) reaction .step) × (now (store .exit) ≡ receiveAdmitted self (now (store .entry)) (now (payload .entry)) reaction .store) ⌝ }
+        ensures { λ r. ⌜ (r ≡ onReceived self (now (store .entry)) (now (payload .entry)) received .step) × (now (store .exit) ≡ onReceived self (now (store .entry)) (now (payload .entry)) received .store) ⌝ }
+    {
+        match received {
+            Received::Frame(frame) => return self.on_answered(store, payload, frame),
+            Received::Undecodable => return self.runs(),
+        }
+    }
+
+    // By what admission makes of the frame.
+    fn on_admitted(
+        self,
+        store: &mut [u8],
+        payload: &[u8],
+        received: Received,
+        reaction: Reaction,
+    ) -> ReceiverStep
+        requires { ⌜ self .kept + self .staged ≤ length (now store) ⌝ }
+        ensures { λ r. ⌜ (r ≡ receiveAdmitted self (now (store .entry)) (now (payload .entry)) received reaction .step) × (now (store .exit) ≡ receiveAdmitted self (now (store .entry)) (now (payload .entry)) received reaction .store) ⌝ }
     {
         match reaction {
-            Reaction::Requested { .. } => return self.runs(),
-            Reaction::Answered { frame } => return self.on_answered(store, payload, frame),
+            Reaction::Requested => return self.runs(),
+            Reaction::Answered => return self.on_received(store, payload, received),
             Reaction::Refused { cause, mirror } => {
                 return self.ends(ReceiverAnswer::Refused { cause, mirror });
             }
@@ -205,7 +240,7 @@ impl Receiver {
             }
             let sent = self.awaited();
             let reaction = procedure.on_answer(header, unknown, received, beside, sent);
-            return self.on_admitted(store, beside, reaction);
+            return self.on_admitted(store, beside, received, reaction);
         }
         self.refuses(FtError::RecordMismatch)
     }

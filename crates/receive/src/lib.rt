@@ -16,10 +16,11 @@ use asdu::header::Cause;
 use frame::Frame;
 use ft::procedure::FileTransferProcedure;
 
-// The frame last sent, whose answer is awaited.
+// What a Receiver last sent of its file: a request or an acknowledgement, by its action and section.
 pub enum Sent {
     Nothing,
-    Frame(Frame),
+    Request { action: u8, nos: Nos },
+    Acknowledgement { action: u8, nos: Nos },
 }
 
 // The file's length as the file ready stated it.
@@ -33,6 +34,7 @@ pub struct Receiver {
     pub procedure: FileTransferProcedure,
     pub ioa: u32,
     pub nof: Nof,
+    // `awaited` makes the frame of it.
     pub sent: Sent,
     pub length: Length,
     // Octets of the store that are accepted, and those after them that are under way.
@@ -46,15 +48,15 @@ pub enum ReceiverResult {
     Err(FtError),
 }
 
-// Where a Receiver stands after a frame.
+// Where a Receiver stands after a frame. What is then to be sent, `ReceiverStep::to_send` says.
 pub enum ReceiverAnswer {
     Running,
-    Send(Frame),
+    Send,
     // The store's first `length` octets are the file; the acknowledgement is still to be sent.
-    Complete { ack: Frame, length: usize },
+    Complete { length: usize },
     FileNotReady { frq: Frq },
     SectionNotReady { nos: Nos, srq: Srq },
-    FileChecksum { ack: Frame, expected: Chs, got: Chs },
+    FileChecksum { expected: Chs, got: Chs },
     UnknownLsq(Lsq),
     Refused { cause: Cause, mirror: bool },
     Err(FtError),
@@ -63,4 +65,10 @@ pub enum ReceiverAnswer {
 pub struct ReceiverStep {
     pub receiver: Receiver,
     pub answer: ReceiverAnswer,
+}
+
+// The frame that a step sends, if it sends one.
+pub enum ToSend {
+    Nothing,
+    Frame(Frame),
 }

@@ -91,7 +91,7 @@ impl Receiver {
     }
 
     // A select or a call for this file.
-    pub(crate) fn request(self, action: u8, nos: Nos) -> Frame
+    fn request(self, action: u8, nos: Nos) -> Frame
         ensures { λ r. ⌜ r ≡ request self action nos ⌝ }
     {
         let nof = self.nof;
@@ -104,7 +104,7 @@ impl Receiver {
     }
 
     // An acknowledgement for this file.
-    pub(crate) fn acknowledge(self, action: u8, nos: Nos) -> Frame
+    fn acknowledge(self, action: u8, nos: Nos) -> Frame
         ensures { λ r. ⌜ r ≡ acknowledge self action nos ⌝ }
     {
         let nof = self.nof;
@@ -116,15 +116,16 @@ impl Receiver {
         }
     }
 
-    // The frame whose answer is awaited. Before a start it is the select, so that a file that is
-    // offered opens the transfer too.
-    pub(crate) fn awaited(self) -> Frame
+    // The frame last sent, whose answer is awaited. Before a start it is the select, so that a file that
+    // is offered opens the transfer too.
+    pub fn awaited(self) -> Frame
         ensures { λ r. ⌜ r ≡ awaited self ⌝ }
     {
         let sent = self.sent;
         match sent {
             Sent::Nothing => return self.request(Scq::SELECT_FILE, Nos { value: 0 }),
-            Sent::Frame(frame) => return frame,
+            Sent::Request { action, nos } => return self.request(action, nos),
+            Sent::Acknowledgement { action, nos } => return self.acknowledge(action, nos),
         }
     }
 
@@ -133,9 +134,11 @@ impl Receiver {
         ensures { λ r. ⌜ r ≡ startedWith self select ⌝ }
     {
         match select {
-            AsduResult::Ok(asdu) => {
-                let frame = asdu.frame;
-                return self.asks(frame);
+            AsduResult::Ok(_) => {
+                return self.asks(Sent::Request {
+                    action: Scq::SELECT_FILE,
+                    nos: Nos { value: 0 },
+                });
             }
             AsduResult::Err(error) => return self.refuses(error),
         }

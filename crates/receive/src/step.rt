@@ -1,14 +1,15 @@
-// What a step makes of the record: it stays, it ends, or a frame goes out whose answer is awaited.
+// What a step makes of the record: it stays, it ends, or a frame goes out whose answer is awaited; and
+// which frame that is.
 use crate::Length;
 use crate::Receiver;
 use crate::ReceiverAnswer;
 use crate::ReceiverStep;
 use crate::Sent;
+use crate::ToSend;
 use asdu::error::FtError;
-use frame::Frame;
 ghost use mathlib.Core.Path.{_≡_};
 ghost use Rattle.receive.specs.Record.{sending, stating, ended, stepped};
-ghost use Rattle.receive.specs.Answers.{asks};
+ghost use Rattle.receive.specs.Answers.{asks, sends, toSend};
 ghost use Rattle.receive.specs.declared.ReceiverAnswer.the-variants.{Running, Err};
 
 impl Receiver {
@@ -44,9 +45,9 @@ impl Receiver {
         }
     }
 
-    // The record with this frame's answer awaited.
-    pub(crate) fn sending(self, frame: Frame) -> Receiver
-        ensures { λ r. ⌜ r ≡ sending self frame ⌝ }
+    // The record with the answer to this awaited.
+    pub(crate) fn sending(self, sent: Sent) -> Receiver
+        ensures { λ r. ⌜ r ≡ sending self sent ⌝ }
     {
         let procedure = self.procedure;
         let nof = self.nof;
@@ -55,7 +56,7 @@ impl Receiver {
             procedure,
             ioa: self.ioa,
             nof,
-            sent: Sent::Frame(frame),
+            sent,
             length,
             kept: self.kept,
             staged: self.staged,
@@ -83,12 +84,46 @@ impl Receiver {
     }
 
     // A frame goes out, and its answer is awaited.
-    pub(crate) fn asks(self, frame: Frame) -> ReceiverStep
-        ensures { λ r. ⌜ r ≡ asks self frame ⌝ }
+    pub(crate) fn asks(self, sent: Sent) -> ReceiverStep
+        ensures { λ r. ⌜ r ≡ asks self sent ⌝ }
     {
         ReceiverStep {
-            receiver: self.sending(frame),
-            answer: ReceiverAnswer::Send(frame),
+            receiver: self.sending(sent),
+            answer: ReceiverAnswer::Send,
         }
+    }
+}
+
+impl ReceiverAnswer {
+    // Whether a frame goes out with this answer.
+    pub fn sends(self) -> bool
+        ensures { λ r. ⌜ r ≡ sends self ⌝ }
+    {
+        match self {
+            ReceiverAnswer::Running => false,
+            ReceiverAnswer::Send => true,
+            ReceiverAnswer::Complete { .. } => true,
+            ReceiverAnswer::FileNotReady { .. } => false,
+            ReceiverAnswer::SectionNotReady { .. } => false,
+            ReceiverAnswer::FileChecksum { .. } => true,
+            ReceiverAnswer::UnknownLsq(_) => false,
+            ReceiverAnswer::Refused { .. } => false,
+            ReceiverAnswer::Err(_) => false,
+        }
+    }
+}
+
+impl ReceiverStep {
+    // The frame that is to be sent: the one whose answer the record now awaits, the acknowledgement
+    // of a whole file or of one whose sum differs included; or none.
+    pub fn to_send(self) -> ToSend
+        ensures { λ r. ⌜ r ≡ toSend self ⌝ }
+    {
+        let answer = self.answer;
+        let receiver = self.receiver;
+        if answer.sends() {
+            return ToSend::Frame(receiver.awaited());
+        }
+        ToSend::Nothing
     }
 }

@@ -8,8 +8,6 @@ use Rattle.receive.specs.Record.{written}
 use Rattle.exchange.specs.Exchange.{Side, byProvider, byReceiver}
 use Rattle.exchange.specs.Lines.{lineFor}
 use Rattle.script.specs.Decimal.{spaced}
-use Rattle.script.specs.declared.line.Sender.{Sender}
-use Rattle.script.specs.declared.line.Sender.the-variants.{Provider, Receiver}
 
 -- `P` or `R` in ASCII
 abbrev pub letterOf : Side → ℕ
@@ -22,11 +20,6 @@ fieldsText letter fields = letter ∷ (spaced fields ++ (10 ∷ []))
 
 unfoldable pub lineText : Side → Frame → List ℕ
 lineText s f = fieldsText (letterOf (lineFor s f .sender)) (lineFor s f .fields)
-
--- the code's names of the sides
-abbrev pub sideOf : Sender → Side
-sideOf Provider = byProvider
-sideOf Receiver = byReceiver
 
 -- octets put into a buffer from a place on, and the place after them
 pub record Put (was : List ℕ) (place : ℕ) (octets : List ℕ) (next : ℕ) (is : List ℕ) : Type 0 where

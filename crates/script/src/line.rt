@@ -1,20 +1,15 @@
 // One line of what a transfer prints of a frame: its sender's letter, its type, section, qualifier and
 // checksum.
+use exchange::Sender;
 use frame::Frame;
 ghost use mathlib.Core.Path.{_≡_};
 ghost use mathlib.Core.List.{[], _∷_};
 ghost use Prim.Native.Nat.{_+_, _≤_, _<_};
 ghost use lib.ListN.{length};
-ghost use Rattle.exchange.specs.Lines.{namedSection, qualifier, statedSum};
+ghost use Rattle.exchange.specs.Lines.{sideOf, namedSection, qualifier, statedSum};
 ghost use Rattle.script.specs.Decimal.{decimal};
-ghost use Rattle.script.specs.LineText.{sideOf, letterOf, fieldsText, lineText, Put};
+ghost use Rattle.script.specs.LineText.{letterOf, fieldsText, lineText, Put};
 ghost use Rattle.script.specs.Answers.{over};
-
-// Whose frame a line is of.
-pub enum Sender {
-    Provider,
-    Receiver,
-}
 
 // The sender's letter.
 fn letter_of(sender: Sender) -> u8

@@ -29,15 +29,15 @@ use Rattle.provide.specs.declared.ProviderResult.the-variants as PM
 use Rattle.provide.specs.declared.Reply.{Reply}
 use Rattle.provide.specs.declared.FrameResult.{FrameResult}
 use Rattle.provide.specs.declared.FrameResult.the-variants as F
-use Rattle.receive.specs.Record.{receiverMade, storeAgrees, started}
-use Rattle.receive.specs.Answers.{Outcome, receive}
+use Rattle.receive.specs.Record.{receiverMade, storeAgrees, awaited, started}
+use Rattle.receive.specs.Answers.{Outcome, receive, sends}
 use Rattle.receive.specs.declared.Receiver.{Receiver}
 use Rattle.receive.specs.declared.ReceiverStep.{ReceiverStep}
 use Rattle.receive.specs.declared.ReceiverAnswer.{ReceiverAnswer}
-use Rattle.receive.specs.declared.ReceiverAnswer.the-variants as R
 use Rattle.receive.specs.declared.ReceiverResult.{ReceiverResult}
 use Rattle.receive.specs.declared.ReceiverResult.the-variants as RM
 use Rattle.exchange.specs.Exchange.{isSending}
+use Rattle.exchange.specs.declared.Sender.the-variants as S
 use Rattle.exchange.specs.Damaging.{raised, namings}
 use Rattle.twoparty.specs.declared.Settings.{Settings}
 use Rattle.twoparty.specs.declared.Queue.{Queue}
@@ -92,16 +92,8 @@ abbrev pub stationOf : Settings → Role → FileTransferProcedure
 stationOf s role = record { role = role; selection = providing (s .role); ca = s .«common_address»; org = 0; sizes = s .sizes }
 
 -- what the Receiver's answer puts behind the rest of the queue: nothing, or one frame that is then all of it
-abbrev pub asked : Queue → ReceiverAnswer → Queue
-asked rest R.Running = rest
-asked rest (R.Send f) = Q.Receiver f
-asked rest (R.Complete ack n) = Q.Receiver ack
-asked rest (R.FileNotReady frq) = rest
-asked rest (R.SectionNotReady nos srq) = rest
-asked rest (R.FileChecksum ack expected got) = Q.Receiver ack
-asked rest (R.UnknownLsq lsq) = rest
-asked rest (R.Refused cause mirror) = rest
-asked rest (R.Err e) = rest
+unfoldable pub asked : Queue → ReceiverAnswer → Queue
+asked rest a = when (sends a) Q.Receiver rest
 
 -- the Receiver's start queues the first frame
 abbrev pub startedParty : Provider → List ℕ → ReceiverStep → TwoParty
@@ -130,17 +122,17 @@ partyMade s file damage store = afterMaking s file damage store (providerMade (s
 
 -- the frame at an index of the Provider's reply, if there is one
 abbrev pub fromReply : FrameResult → Passing
-fromReply (F.Ok f) = N.Provider f
+fromReply (F.Ok f) = N.Frame S.Provider f
 fromReply (F.Err e) = N.Nothing
 
-abbrev pub first : Provider → List ℕ → Queue → Passing
-first p file Q.Empty = N.Nothing
-first p file (Q.Receiver f) = N.Receiver f
-first p file (Q.Provider reply i damaged) = fromReply (replyFrame p file reply i)
+abbrev pub first : Provider → Receiver → List ℕ → Queue → Passing
+first p r file Q.Empty = N.Nothing
+first p r file Q.Receiver = N.Frame S.Receiver (awaited r)
+first p r file (Q.Provider reply i damaged) = fromReply (replyFrame p file reply i)
 
 -- the queue's first frame; 26 first
 unfoldable pub nextFrame : TwoParty → List ℕ → Passing
-nextFrame t file = unless (fileAgrees (t .provider) file) (N.Err E.RecordMismatch) (first (t .provider) file (t .queue))
+nextFrame t file = unless (fileAgrees (t .provider) file) (N.Err E.RecordMismatch) (first (t .provider) (t .receiver) file (t .queue))
 
 -- a transfer and the store
 pub record Moved : Type 0 where
@@ -178,9 +170,10 @@ afterProvider t damage s =
     }
 
 -- the Provider is handed the Receiver's frame
-abbrev pub toProvider : TwoParty → List ℕ → List ℕ → Frame → TwoParty
-toProvider t file damage f =
-    afterProvider t damage (provide (t .provider) file (headerBy (t .receiver .procedure) f) U.Nothing (D.Frame f) [])
+abbrev pub toProvider : TwoParty → List ℕ → List ℕ → TwoParty
+toProvider t file damage =
+    afterProvider t damage
+    (provide (t .provider) file (headerBy (t .receiver .procedure) (awaited (t .receiver))) U.Nothing (D.Frame (awaited (t .receiver))) [])
 
 -- the Receiver has answered; `rest` is the queue behind the frame
 abbrev pub heard : TwoParty → Queue → ReceiverStep → TwoParty
@@ -199,7 +192,7 @@ toReceiver t file store reply i damaged (F.Err e) = still t store
 -- the queue's first frame passes; an empty queue stays
 abbrev pub passed : TwoParty → List ℕ → List ℕ → List ℕ → Queue → Moved
 passed t file damage store Q.Empty = still t store
-passed t file damage store (Q.Receiver f) = still (toProvider t file damage f) store
+passed t file damage store Q.Receiver = still (toProvider t file damage) store
 passed t file damage store (Q.Provider reply i damaged) = toReceiver t file store reply i damaged (replyFrame (t .provider) file reply i)
 
 unfoldable pub advanced : TwoParty → List ℕ → List ℕ → List ℕ → Moved
@@ -222,8 +215,7 @@ stepped t file damage store =
 
 abbrev pub isNothing : Passing → Bool
 isNothing N.Nothing = true
-isNothing (N.Provider f) = false
-isNothing (N.Receiver f) = false
+isNothing (N.Frame sender f) = false
 isNothing (N.Err e) = true
 
 -- no frame is left

@@ -56,17 +56,10 @@ impl Queue {
     pub(crate) fn asked(self, answer: ReceiverAnswer) -> Queue
         ensures { λ r. ⌜ r ≡ asked self answer ⌝ }
     {
-        match answer {
-            ReceiverAnswer::Running => self,
-            ReceiverAnswer::Send(frame) => Queue::Receiver(frame),
-            ReceiverAnswer::Complete { ack, .. } => Queue::Receiver(ack),
-            ReceiverAnswer::FileNotReady { .. } => self,
-            ReceiverAnswer::SectionNotReady { .. } => self,
-            ReceiverAnswer::FileChecksum { ack, .. } => Queue::Receiver(ack),
-            ReceiverAnswer::UnknownLsq(_) => self,
-            ReceiverAnswer::Refused { .. } => self,
-            ReceiverAnswer::Err(_) => self,
+        if answer.sends() {
+            return Queue::Receiver;
         }
+        self
     }
 }
 

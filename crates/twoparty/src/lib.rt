@@ -8,6 +8,7 @@ mod step; // one frame
 use asdu::error::FtError;
 use asdu::file::Nof;
 use asdu::sizes::AddressSizes;
+use exchange::Sender;
 use frame::Frame;
 use ft::direction::Role;
 use provide::Provider;
@@ -25,11 +26,11 @@ pub struct Settings {
     pub role: Role,
 }
 
-// The frames on their way. What a Receiver sends is one frame; what a Provider sends is a reply, of
-// which the frames from `next` on are still to come.
+// The frames on their way. What a Receiver sends is one frame, the one whose answer its record awaits;
+// what a Provider sends is a reply, of which the frames from `next` on are still to come.
 pub enum Queue {
     Empty,
-    Receiver(Frame),
+    Receiver,
     Provider {
         reply: Reply,
         next: usize,
@@ -56,11 +57,10 @@ pub enum TwoPartyResult {
     Err(FtError),
 }
 
-// The frame that passes next, by its sender.
+// The frame that passes next, and whose it is.
 pub enum Passing {
     Nothing,
-    Provider(Frame),
-    Receiver(Frame),
+    Frame { sender: Sender, frame: Frame },
     Err(FtError),
 }
 

@@ -14,8 +14,7 @@ fn is_nothing(next: Passing) -> bool
 {
     match next {
         Passing::Nothing => true,
-        Passing::Provider(_) => false,
-        Passing::Receiver(_) => false,
+        Passing::Frame { .. } => false,
         Passing::Err(_) => true,
     }
 }

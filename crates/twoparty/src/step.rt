@@ -9,6 +9,7 @@ use crate::noise;
 use asdu::error::FtError;
 use asdu::header::Header;
 use asdu::header::UnknownField;
+use exchange::Sender;
 use frame::Frame;
 use ft::admit::Received;
 use ft::build;
@@ -88,7 +89,10 @@ fn from_reply(found: FrameResult) -> Passing
     ensures { λ r. ⌜ r ≡ fromReply found ⌝ }
 {
     match found {
-        FrameResult::Ok(frame) => Passing::Provider(frame),
+        FrameResult::Ok(frame) => Passing::Frame {
+            sender: Sender::Provider,
+            frame,
+        },
         FrameResult::Err(_) => Passing::Nothing,
     }
 }
@@ -132,13 +136,19 @@ impl Radio {
 impl TwoParty {
     // The queue's first frame.
     fn first(self, file: &[u8]) -> Passing
-        ensures { λ r. ⌜ r ≡ first (self .provider) (now (file .entry)) (self .queue) ⌝ }
+        ensures { λ r. ⌜ r ≡ first (self .provider) (self .receiver) (now (file .entry)) (self .queue) ⌝ }
     {
         let provider = self.provider;
+        let receiver = self.receiver;
         let queue = self.queue;
         match queue {
             Queue::Empty => return Passing::Nothing,
-            Queue::Receiver(frame) => return Passing::Receiver(frame),
+            Queue::Receiver => {
+                return Passing::Frame {
+                    sender: Sender::Receiver,
+                    frame: receiver.awaited(),
+                };
+            }
             Queue::Provider { reply, next, .. } => {
                 return from_reply(provider.reply_frame(file, reply, next));
             }
@@ -175,12 +185,13 @@ impl TwoParty {
     }
 
     // The Provider is handed the Receiver's frame.
-    fn to_provider(self, file: &[u8], damage: &[u8], frame: Frame) -> TwoParty
-        ensures { λ r. ⌜ r ≡ toProvider self (now (file .entry)) (now (damage .entry)) frame ⌝ }
+    fn to_provider(self, file: &[u8], damage: &[u8]) -> TwoParty
+        ensures { λ r. ⌜ r ≡ toProvider self (now (file .entry)) (now (damage .entry)) ⌝ }
     {
         let provider = self.provider;
         let receiver = self.receiver;
         let procedure = receiver.procedure;
+        let frame = receiver.awaited();
         let header = header_by(procedure, frame);
         let received = Received::Frame(frame);
         let step = provider.on_asdu(file, header, UnknownField::Nothing, received, &[]);
@@ -262,7 +273,7 @@ impl TwoParty {
         let queue = self.queue;
         match queue {
             Queue::Empty => return self,
-            Queue::Receiver(frame) => return self.to_provider(file, damage, frame),
+            Queue::Receiver => return self.to_provider(file, damage),
             Queue::Provider {
                 reply,
                 next,

@@ -11,10 +11,6 @@ close-file-spec =
     tie.close
     (tie.spec
     (λ c κs. search needs)
+    (λ c store e. simp (whens, ← e, eq-eqb _ _ (c .before .if1 .taken), ← (c .closes .ensures)))
     (λ c κs. search needs)
-    (λ c store e.
-    simp (whens, ← e, eq-eqb _ _ (c .before .before .if1 .taken), ← (c .closes .ensures), ← (c .before .acknowledge .ensures)))
-    (λ c κs. search needs)
-    (λ c κs. search needs)
-    (λ c store e.
-    simp (whens, ← e, ne-eqb _ _ (c .before .before .if1 .left)) (simp (c .before .acknowledge2 .ensures) at (c .closes2 .ensures))))
+    (λ c store e. simp (whens, ← e, ne-eqb _ _ (c .before .if1 .left)) (c .closes2 .ensures)))

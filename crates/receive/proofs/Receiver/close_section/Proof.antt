@@ -12,16 +12,6 @@ close-section-spec =
     (tie.spec
     (λ c. search needs)
     (λ c κs. search needs)
+    (λ c store e. simp (whens, ← e, eq-eqb _ _ (c .before .before .if1 .taken), ← (c .asks .ensures)))
     (λ c κs. search needs)
-    (λ c store e.
-    simp (
-      whens,
-      ← e,
-      eq-eqb _ _ (c .before .before .before .if1 .taken),
-      ← (c .asks .ensures),
-      ← (c .before .acknowledge .ensures),
-    ))
-    (λ c κs. search needs)
-    (λ c κs. search needs)
-    (λ c store e.
-    simp (whens, ← e, ne-eqb _ _ (c .before .before .if1 .left), ← (c .asks2 .ensures), ← (c .before .acknowledge2 .ensures))))
+    (λ c store e. simp (whens, ← e, ne-eqb _ _ (c .before .if1 .left), ← (c .asks2 .ensures))))

@@ -13,6 +13,4 @@ on-file-ready-spec =
     (λ c. simp (whens, c .before .if1 .taken, ← (c .ends .ensures)))
     (λ c κs. search needs)
     (λ c κs. search needs)
-    (λ c κs. search needs)
-    (λ c. simp (whens, c .before .before .before .if1 .left)
-    (simp (c .before .request .ensures, c .before .before .stating .ensures) at (c .asks .ensures))))
+    (λ c. simp (whens, c .before .before .if1 .left) (simp (c .before .stating .ensures) at (c .asks .ensures))))

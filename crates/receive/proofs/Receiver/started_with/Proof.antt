@@ -8,7 +8,7 @@ started-with-spec =
     (tie.spec
     (λ c. search needs)
     (λ c κs. search needs)
-    (λ c. simp (c .before .before .select .given .1) (c .asks .ensures))
+    (λ c. simp (c .before .enum-told .given .1) (c .asks .ensures))
     (λ c. search needs)
     (λ c κs. search needs)
-    (λ c. simp (c .before .before .select2 .given .1) (c .refuses .ensures)))
+    (λ c. simp (c .before .before .select .given .1) (c .refuses .ensures)))
