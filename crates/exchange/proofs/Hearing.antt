@@ -22,7 +22,7 @@ use Rattle.frame.specs.Ranges.{valuesInRange}
 use Rattle.frame.specs.Answers.{answersTo}
 use Rattle.ft.specs.Directions.{otherRole}
 use Rattle.ft.specs.Procedure.{settled}
-use Rattle.ft.specs.Admission.{serves, frameAgrees, admitFrame, onAsdu, answered, onAnswer}
+use Rattle.ft.specs.Admission.{serves, frameAgrees, admitFrame, onAsdu, matched, onAnswer}
 use Rattle.ft.specs.declared.direction.Role.{Role}
 use Rattle.ft.specs.declared.direction.Role.the-variants.{Controlling, Controlled}
 use Rattle.ft.specs.declared.procedure.FileTransferProcedure.{FileTransferProcedure}
@@ -34,7 +34,7 @@ use Rattle.provide.specs.declared.Provider.{Provider}
 use Rattle.provide.proofs.Building.{uses}
 use Rattle.provide.proofs.Facts.{request-heard, ours-heard}
 use Rattle.provide.proofs.Making as PM
-use Rattle.receive.specs.Record.{storeAgrees, awaited, select, stepped, started}
+use Rattle.receive.specs.Record.{storeAgrees, opening, frameOf, awaited, stepped, started}
 use Rattle.receive.specs.declared.ReceiverAnswer.the-variants as RA
 use Rattle.receive.specs.Answers.{onAnswered, receive}
 use Rattle.receive.specs.declared.Receiver.{Receiver}
@@ -61,7 +61,7 @@ file-type (F.QueryLog ioa nof start stop) = refl
 -- a frame in range, under a sound header of a sender with the same widths, in a direction that is used, is admitted
 admits : (s o : FileTransferProcedure) (f : Frame) (h : Header) (beside : List ℕ) → Sound o f h → s .sizes ≡ o .sizes → settled s ≡ true
     → leb (ioaOf f) (maxIoa (s .sizes)) ≡ true → valuesInRange (s .sizes) f beside ≡ true → serves s (otherRole (s .role)) (receiverSide f) ≡ true
-    → onAsdu s h U.Nothing (D.Frame f) beside ≡ when (receiverSide f) (Requested f) (Answered f)
+    → onAsdu s h U.Nothing (D.Frame f) beside ≡ when (receiverSide f) Requested Answered
 unfolding onAsdu isMirror admitFrame frameAgrees when
 admits s o f h beside sound same right within fits dir =
     let below : h .«common_address» < maxCommonAddress (s .sizes) = rw same (sound .common) in
@@ -118,7 +118,7 @@ module _ (m : Transfer) where
       → valuesInRange (m .provider-station .sizes) f [] ≡ true → provide P (m .file) h U.Nothing (D.Frame f) [] ≡ onRequest P f
   unfolding when
   provider-hears f h sound side object fits =
-      request-heard P (m .file) h U.Nothing (D.Frame f) [] f agrees refl
+      request-heard P (m .file) h U.Nothing f [] agrees refl
       (admits (m .provider-station) (m .receiver-station) f h [] sound (sym (m .widths)) settings (rw object object-fits) fits
       (rw side (swap (m .provider-station) (m .provider-station .role) false ∙ m .provider-serves)) ∙ rw side)
 
@@ -153,12 +153,13 @@ module _ (m : Transfer) where
   holds s l kept staged store room = simp (receiver-facts .settings, receiver-facts .object, le-leb (kept + staged) (length store) room)
 
   -- an answer of the Provider's
-  pub receiver-hears : (s : Frame) (l : Length) (kept staged : ℕ) (store payload : List ℕ) (f : Frame) (h : Header) → kept + staged ≤ length store
-      → Sound (m .provider-station) f h → receiverSide f ≡ false → ioaOf f ≡ m .object → valuesInRange (m .provider-station .sizes) f payload ≡ true → answersTo s f ≡ true
-      → receive (R (S.Frame s) l kept staged) store h U.Nothing (D.Frame f) payload ≡ onAnswered (R (S.Frame s) l kept staged) store payload f
-  unfolding onAnswer answered awaited when
+  pub receiver-hears : (s : Sent) (l : Length) (kept staged : ℕ) (store payload : List ℕ) (f : Frame) (h : Header) → kept + staged ≤ length store
+      → Sound (m .provider-station) f h → receiverSide f ≡ false → ioaOf f ≡ m .object → valuesInRange (m .provider-station .sizes) f payload ≡ true
+      → answersTo (frameOf (m .object) (m .name) s) f ≡ true
+      → receive (R s l kept staged) store h U.Nothing (D.Frame f) payload ≡ onAnswered (R s l kept staged) store payload f
+  unfolding onAnswer matched awaited when
   receiver-hears s l kept staged store payload f h room sound side object fits right =
-      answer-heard (R (S.Frame s) l kept staged) store h U.Nothing (D.Frame f) payload f (holds (S.Frame s) l kept staged store room) refl
+      answer-heard (R s l kept staged) store h U.Nothing f payload (holds s l kept staged store room) refl
       (simp (
         admits (m .receiver-station) (m .provider-station) f h payload sound (m .widths) (receiver-facts .settings) (rw object (receiver-facts .object))
             (rw (m .widths) fits) (rw side (swap (m .receiver-station) (m .receiver-station .role) true ∙ m .receiver-serves)),
@@ -168,7 +169,7 @@ module _ (m : Transfer) where
 
   -- the Receiver's start
   pub starts : started (R S.Nothing Unknown 0 0) (m .store)
-      ≡ stepped (R (S.Frame (select (R S.Nothing Unknown 0 0))) Unknown 0 0) (RA.Send (select (R S.Nothing Unknown 0 0)))
+      ≡ stepped (R opening Unknown 0 0) RA.Send
   unfolding when
   starts =
       started-is (R S.Nothing Unknown 0 0) (m .store) (holds S.Nothing Unknown 0 0 (m .store) (omega arith))

@@ -13,14 +13,14 @@ use Rattle.frame.specs.Answers.{calledSection, oneOf, fileAnswered, sectionAnsw
 use Rattle.ft.specs.Checksum.{octetSum, checksum}
 use Rattle.ft.specs.Directions.{usesFunction}
 use Rattle.ft.specs.Procedure.{conventional, addressRight, settled}
-use Rattle.ft.specs.Admission.{serves, frameAgrees, admitFrame, onAsdu, answered, onAnswer}
+use Rattle.ft.specs.Admission.{serves, frameAgrees, admitFrame, onAsdu, matched, onAnswer}
 use Rattle.ft.specs.Building.{addressed, framed, built}
 use Rattle.ft.specs.declared.direction.Role.the-variants.{Controlling, Controlled}
 use Rattle.provide.specs.Sections.{sectionLength, sectionCount, sections, sectionOctets, segments}
 use Rattle.provide.specs.Record.{freshProvider, providerMade, fileAgrees}
 use Rattle.provide.specs.Requests.{onSc, after, onAck, isOurs, onRequest, provide}
 use Rattle.receive.specs.Record.{freshReceiver, receiverMade, storeAgrees, written, awaited, started}
-use Rattle.receive.specs.Answers.{onFileReady, onSectionReady, onSectionClose, onFileClose, onClose, onSegment, receive}
+use Rattle.receive.specs.Answers.{onFileReady, onSectionReady, onSectionClose, onFileClose, onClose, onSegment, receive, toSend}
 use Rattle.exchange.specs.Exchange.{Side, byProvider, byReceiver, Passing}
 use Rattle.exchange.specs.Transfer.{Sound, senderOf, Radio, Transfer, Transferred, providerFrames, receiverFrames, exchanged}
 use Rattle.exchange.specs.Lines.{lineOf}
@@ -79,5 +79,5 @@ script-transferred = two-party-transfer script
 
 -- its output, line by line
 pub script-output : map lineOf (exchanged script 13 .passed) ≡ scriptLines
-unfolding script when divCeil scqInRange afqInRange isMirror within sizesRight headerLen maxIoa maxCommonAddress elementRoom segmentLimit scCause isFileType segmentInRange calledSection oneOf fileAnswered sectionAnswered scAnswered ackAnswered namesAgree answersTo octetSum checksum usesFunction addressRight settled serves frameAgrees admitFrame onAsdu answered onAnswer addressed framed built sectionLength sectionCount sections sectionOctets segments fileAgrees onSc after onAck isOurs onRequest provide storeAgrees written awaited started onFileReady onSectionReady onSectionClose onFileClose onClose onSegment receive
+unfolding script when divCeil scqInRange afqInRange isMirror within sizesRight headerLen maxIoa maxCommonAddress elementRoom segmentLimit scCause isFileType segmentInRange calledSection oneOf fileAnswered sectionAnswered scAnswered ackAnswered namesAgree answersTo octetSum checksum usesFunction addressRight settled serves frameAgrees admitFrame onAsdu matched onAnswer addressed framed built sectionLength sectionCount sections sectionOctets segments fileAgrees onSc after onAck isOurs onRequest provide storeAgrees written awaited started onFileReady onSectionReady onSectionClose onFileClose onClose onSegment receive toSend
 script-output = refl

@@ -15,7 +15,6 @@ use Rattle.asdu.specs.declared.file.Nos.{Nos}
 use Rattle.asdu.specs.declared.file.Lof.{Lof}
 use Rattle.asdu.specs.declared.file.Lsq.{Lsq}
 use Rattle.asdu.specs.declared.file.Chs.{Chs}
-use Rattle.frame.specs.declared.Frame.{Frame}
 use Rattle.frame.specs.declared.Frame.the-variants as F
 use Rattle.frame.specs.Answers.{answersTo, namesAgree, ackAnswered, oneOf}
 use Rattle.ft.specs.Checksum.{checksum}
@@ -28,8 +27,9 @@ use Rattle.provide.specs.declared.ProviderAnswer.{ProviderAnswer}
 use Rattle.provide.proofs.Facts.{requests-section, next-section, no-section, file-accepted}
 use Rattle.provide.proofs.SectionLaws.{enough, section-from}
 use Rattle.receive.proofs.Facts as RF
-use Rattle.receive.specs.Record.{withState}
-use Rattle.receive.specs.Answers.{onSectionReady, onClose}
+use Rattle.receive.specs.Record.{withState, awaited}
+use Rattle.receive.specs.Answers.{onSectionReady, onClose, toSend}
+use Rattle.receive.specs.declared.Sent.{Sent}
 use Rattle.receive.specs.declared.Sent.the-variants as S
 use Rattle.receive.specs.declared.Length.{Length}
 use Rattle.receive.specs.declared.Length.the-variants.{Known}
@@ -39,22 +39,22 @@ use Rattle.exchange.specs.Exchange.{byProvider, byReceiver, Noise, Passi
 use Rattle.exchange.specs.Transfer.{Transfer, Sendings, AllDamaged, Intact, arrived, Radio, inOrder, sendingFrames, damagedSendings, providerFrames, receiverFrames}
 use Rattle.exchange.specs.Order.{Meets, AnswersInOrder}
 use Rattle.exchange.proofs.Hearing.{P, R, short, provider-fresh, receiver-fresh, hears-ack}
-use Rattle.exchange.proofs.Steps.{Adds, adds, Ends, Ex, sc, ack, ask, tell, back, asked-sc, asked-ack, takes}
+use Rattle.exchange.proofs.Steps.{Adds, adds, Ends, Ex, sc, ack, asking, ask, tell, back, asked-sc, asked-ack, takes}
 use Rattle.exchange.proofs.Sendings.{limit, Heard, packets, sent-payloads, sending-passes, accepts, heard-call, damaged-pass}
 
 module _ (m : Transfer) where
   -- what was asked is answered by the section that is ready
-  abbrev pub Awaits : Frame → Nos → Type 0
-  Awaits s nos = (x : Lof) → answersTo s (F.SectionReady (m .object) (m .name) nos x (record { value = 0; «not_ready» = false })) ≡ true
+  abbrev pub Awaits : Sent → Nos → Type 0
+  Awaits s nos = (x : Lof) → answersTo (asking m s) (F.SectionReady (m .object) (m .name) nos x (record { value = 0; «not_ready» = false })) ≡ true
 
   -- ---- one section, from its announcement to its acceptance
 
   module _ (wide : 0 < limit m) (l : Length) (nos : Nos) (acc o : List ℕ) (is : octetsOf (P m) (m .file) nos ≡ o) (small : length o ≤ 0xFFFFFF)
       (x : Sendings) (bad : AllDamaged (limit m) o (x .damaged)) (good : Intact (limit m) o (x .intact)) where
     -- its last sending
-    intact-passes : (radio : List Noise) (s : Frame) (rest : List ℕ) (t : List Passing) (u : ProviderAnswer) (v : ReceiverAnswer) → Heard m s nos → length o ≤ length rest
+    intact-passes : (radio : List Noise) (s : Sent) (rest : List ℕ) (t : List Passing) (u : ProviderAnswer) (v : ReceiverAnswer) → Heard m s nos → length o ≤ length rest
         → ((t′ : List Passing) → Adds t t′ (divCeil (length o) (limit m) + 1) 0
-        → Ends m (Ex m (ask m (ack m 3 nos) ∷ []) (ack m 3 nos) l (acc ++ o) [] (drop (length o) rest) radio t′ u (RA.Send (ack m 3 nos))))
+        → Ends m (Ex m (ask m (ack m 3 nos) ∷ []) (ack m 3 nos) l (acc ++ o) [] (drop (length o) rest) radio t′ u RA.Send))
         → Ends m (Ex m (flown (x .intact (segments (limit m) o)) (packets m nos o)) s l acc [] rest radio t u v)
     intact-passes radio s rest t u v heard fits k =
         sending-passes m wide l nos acc o radio s (x .intact (segments (limit m) o)) rest t u v heard (good .0) fits
@@ -62,14 +62,14 @@ module _ (m : Transfer) where
         (λ t″ d′. rw (good .1) (k t″ (omega arith))))
 
     pub section-passes : (radio : List Noise) → ((done left : List Noise) → done ++ left ≡ x .damaged → Meets m (nos .value) (left ++ (x .intact ∷ radio)))
-        → (s : Frame) (rest : List ℕ) (t : List Passing) (u : ProviderAnswer) (v : ReceiverAnswer) → Awaits s nos → length o ≤ length rest
+        → (s : Sent) (rest : List ℕ) (t : List Passing) (u : ProviderAnswer) (v : ReceiverAnswer) → Awaits s nos → length o ≤ length rest
         → ((t′ : List Passing) (u′ : ProviderAnswer) → Adds t t′ (1 + (1 + length (x .damaged)) * (divCeil (length o) (limit m) + 1)) (1 + length (x .damaged))
-        → Ends m (Ex m (ask m (ack m 3 nos) ∷ []) (ack m 3 nos) l (acc ++ o) [] (drop (length o) rest) radio t′ u′ (RA.Send (ack m 3 nos))))
+        → Ends m (Ex m (ask m (ack m 3 nos) ∷ []) (ack m 3 nos) l (acc ++ o) [] (drop (length o) rest) radio t′ u′ RA.Send))
         → Ends m (Ex m (tell m (sectionReady (P m) (m .file) nos) ∷ []) s l acc [] rest (x .damaged ++ (x .intact ∷ radio)) t u v)
-    unfolding onSectionReady when
+    unfolding onSectionReady toSend awaited when
     section-passes radio own s rest t u v awaits fits k =
         takes m s l acc [] rest _ t u v _ []
-        (λ t′. Ex m (ask m (sc m 6 nos) ∷ []) (sc m 6 nos) l acc [] rest (x .damaged ++ (x .intact ∷ radio)) t′ u (RA.Send (sc m 6 nos)))
+        (λ t′. Ex m (ask m (sc m 6 nos) ∷ []) (sc m 6 nos) l acc [] rest (x .damaged ++ (x .intact ∷ radio)) t′ u RA.Send)
         refl refl (simp (is, le-leb (length o) 0xFFFFFF small)) (awaits _) refl
         (λ t₁ d₁. asked-sc m (sc m 6 nos) l acc [] rest _ t₁ u _ nos 6 (Section nos) refl (requests-section (P m) nos 0) (own [] (x .damaged) refl)
         (λ t₂ d₂. rw (is, sent-payloads m nos o)
@@ -98,7 +98,7 @@ module _ (m : Transfer) where
   unfolding answersTo namesAgree ackAnswered oneOf when
   awaits-next nos nos′ x = simp (eq-eqb (m .object) (m .object) refl, eq-eqb (m .name .value) (m .name .value) refl)
 
-  closes-file : (nos : Nos) (q : Lsq) (c : Chs) → answersTo (ack m 3 nos) (F.LastSection (m .object) (m .name) nos q c) ≡ true
+  closes-file : (nos : Nos) (q : Lsq) (c : Chs) → answersTo (asking m (ack m 3 nos)) (F.LastSection (m .object) (m .name) nos q c) ≡ true
   unfolding answersTo namesAgree ackAnswered oneOf when
   closes-file nos q c = simp (eq-eqb (m .object) (m .object) refl, eq-eqb (m .name .value) (m .name .value) refl)
 
@@ -110,12 +110,12 @@ module _ (m : Transfer) where
       record {
         queue = ask m (ack m 1 nos) ∷ [];
         provider = P m;
-        receiver = withState (R m S.Nothing (Known 0) 0 0) (S.Frame (ack m 1 nos)) (Known (length (m .file))) (length (m .file)) 0 true;
+        receiver = withState (R m S.Nothing (Known 0) 0 0) (ack m 1 nos) (Known (length (m .file))) (length (m .file)) 0 true;
         store = m .file ++ rest;
         radio = radio;
         passed = t;
         providerSaid = u;
-        receiverSaid = RA.Complete (ack m 1 nos) (length (m .file));
+        receiverSaid = RA.Complete (length (m .file));
       }
 
   ends : (nos : Nos) (rest : List ℕ) (radio : List Noise) (u : ProviderAnswer) (t : List Passing)
@@ -144,10 +144,10 @@ module _ (m : Transfer) where
       → nos ≡ record { value = count } → rest ≡ drop (length (m .file)) (m .store)
       → sentBy byProvider t + 1 ≡ providerFrames m → sentBy byReceiver t + 1 ≡ receiverFrames m
       → Ends m (Ex m (tell m (closeFrame (P m) nos 1 (m .file)) ∷ []) (ack m 3 nos) (Known (length (m .file))) (m .file) [] rest radio t u v)
-  unfolding onClose when
+  unfolding onClose toSend awaited when
   finish nos rest radio t u v last behind na mb =
       takes m (ack m 3 nos) (Known (length (m .file))) (m .file) [] rest radio t u v _ [] (closed nos rest radio u) refl refl refl (closes-file nos _ _)
-      (simp (RF.file-accepted (R m (S.Frame (ack m 3 nos)) (Known (length (m .file))) (length (m .file)) 0) (m .file) [] rest refl refl nos (record { value = checksum (m .file) }) refl))
+      (simp (RF.file-accepted (R m (ack m 3 nos) (Known (length (m .file))) (length (m .file)) 0) (m .file) [] rest refl refl nos (record { value = checksum (m .file) }) refl))
       (λ t′ d. ends nos rest radio u t′ last behind (omega arith) (omega arith))
 
   -- ---- the sections in turn: acc is accepted, rem is left of the file, and section j + 1 is announced
@@ -170,7 +170,7 @@ module _ (m : Transfer) where
   abbrev beyond : List ℕ
   beyond = drop (length (m .file)) (m .store)
 
-  module _ (wide : 0 < limit m) (j : ℕ) (x : Sendings) (acc rem rest : List ℕ) (t : List Passing) (u : ProviderAnswer) (v : ReceiverAnswer) (s : Frame)
+  module _ (wide : 0 < limit m) (j : ℕ) (x : Sendings) (acc rem rest : List ℕ) (t : List Passing) (u : ProviderAnswer) (v : ReceiverAnswer) (s : Sent)
       (is : drop (j * size) (m .file) ≡ rem) (kept : acc ++ rem ≡ m .file) (fits : length rem ≤ length rest) (behind : drop (length rem) rest ≡ beyond)
       (awaits : Awaits s (number j)) (bad : AllDamaged (limit m) (take size rem) (x .damaged)) (good : Intact (limit m) (take size rem) (x .intact)) where
     small : length (take size rem) ≤ 0xFFFFFF
@@ -203,7 +203,7 @@ module _ (m : Transfer) where
   -- the sections from j + 1 on pass, c of them after that one
   unfoldable pub Pass : ℕ → ℕ → List Sendings → Type 0
   Pass c j xs =
-      (acc rem rest : List ℕ) (t : List Passing) (u : ProviderAnswer) (v : ReceiverAnswer) (s : Frame)
+      (acc rem rest : List ℕ) (t : List Passing) (u : ProviderAnswer) (v : ReceiverAnswer) (s : Sent)
       → drop j (m .radio) ≡ xs → j + suc c ≡ count → drop (j * size) (m .file) ≡ rem → acc ++ rem ≡ m .file → length rem ≤ length rest → drop (length rem) rest ≡ beyond → Awaits s (number j)
       → Radio (limit m) (parts (suc c) size rem) xs
       → sentBy byProvider t + (suc c + sendingFrames (limit m) (parts (suc c) size rem) xs) + 1 ≡ providerFrames m

@@ -26,18 +26,19 @@ use Rattle.provide.proofs.Facts.{section-again}
 use Rattle.provide.specs.declared.Reply.the-variants.{Section}
 use Rattle.provide.specs.declared.ProviderAnswer.{ProviderAnswer}
 use Rattle.provide.specs.declared.ProviderAnswer.the-variants as PA
-use Rattle.receive.specs.Answers.{onClose}
+use Rattle.receive.specs.Record.{awaited}
+use Rattle.receive.specs.Answers.{onClose, toSend}
 use Rattle.receive.specs.declared.Length.{Length}
 use Rattle.receive.specs.declared.ReceiverAnswer.{ReceiverAnswer}
 use Rattle.receive.specs.declared.ReceiverAnswer.the-variants as RA
-use Rattle.receive.specs.declared.Sent.the-variants as S
+use Rattle.receive.specs.declared.Sent.{Sent}
 use Rattle.receive.proofs.Facts.{section-accepted, section-dropped}
 use Rattle.exchange.specs.Exchange.{Fate, lost, arrives, Passing, Noise, flown, payloads, nextSending, sendingsLeft}
 use Rattle.exchange.specs.Transfer.{Transfer, Sending, arrived, Damaged, AllDamaged}
 use Rattle.exchange.specs.Order.{Meets}
 use Rattle.exchange.proofs.Radio.{payloads-behind}
 use Rattle.exchange.proofs.Hearing.{P, R}
-use Rattle.exchange.proofs.Steps.{Adds, Ends, Ex, sc, ack, ask, tell, asked-ack, takes, loses, gains}
+use Rattle.exchange.proofs.Steps.{Adds, Ends, Ex, sc, ack, asking, ask, tell, asked-ack, takes, loses, gains}
 
 -- no more arrives than was sent
 arrived-fits : (os : List (List ℕ)) (fs : List Fate) → Sending os fs → length (arrived fs) ≤ length (joined os)
@@ -62,9 +63,9 @@ module _ (m : Transfer) where
   limit = segmentLimit (m .provider-station .sizes)
 
   -- what was asked is answered by this section's segments and its close
-  pub record Heard (s : Frame) (nos : Nos) : Type 0 where
-    pub segment : (x : Los) → answersTo s (F.Segment (m .object) (m .name) nos x) ≡ true
-    pub close : (q : Lsq) (c : Chs) → answersTo s (F.LastSection (m .object) (m .name) nos q c) ≡ true
+  pub record Heard (s : Sent) (nos : Nos) : Type 0 where
+    pub segment : (x : Los) → answersTo (asking m s) (F.Segment (m .object) (m .name) nos x) ≡ true
+    pub close : (q : Lsq) (c : Chs) → answersTo (asking m s) (F.LastSection (m .object) (m .name) nos q c) ≡ true
 
   -- segments, and the frame behind them
   abbrev behind : Nos → List (List ℕ) → Frame → List Packet
@@ -72,7 +73,7 @@ module _ (m : Transfer) where
 
   -- ---- the segments: each lemma is one clause of the recursion
 
-  module _ (l : Length) (nos : Nos) (acc : List ℕ) (radio : List Noise) (s : Frame) (u : ProviderAnswer) (c : Frame) (heard : Heard s nos) where
+  module _ (l : Length) (nos : Nos) (acc : List ℕ) (radio : List Noise) (s : Sent) (u : ProviderAnswer) (c : Frame) (heard : Heard s nos) where
     -- these segments pass with these fates: what arrives of them is under way, and frame c is next
     unfoldable Pass : List (List ℕ) → List Fate → Type 0
     Pass os fs =
@@ -124,7 +125,7 @@ module _ (m : Transfer) where
   sent-payloads nos o = payloads-behind (P m) nos (closeFrame (P m) nos 3 o) refl (segments limit o)
 
   module _ (wide : 0 < limit) (l : Length) (nos : Nos) (acc o : List ℕ) where
-    pub sending-passes : (radio : List Noise) (s : Frame) (fs : List Fate) (rest : List ℕ) (t : List Passing) (u : ProviderAnswer) (v : ReceiverAnswer)
+    pub sending-passes : (radio : List Noise) (s : Sent) (fs : List Fate) (rest : List ℕ) (t : List Passing) (u : ProviderAnswer) (v : ReceiverAnswer)
         → Heard s nos → Sending (segments limit o) fs → length o ≤ length rest
         → ((t′ : List Passing) (v′ : ReceiverAnswer) → Adds t t′ (divCeil (length o) limit) 0
         → Ends m (Ex m (tell m (closeFrame (P m) nos 3 o) ∷ []) s l acc (arrived fs) (drop (length (arrived fs)) rest) radio t′ u v′))
@@ -135,30 +136,30 @@ module _ (m : Transfer) where
         (rw (joined-all limit wide o) fits)
         (λ t′ v′ d. k t′ v′ (rw length-parts at d))
 
-    module _ (s : Frame) (heard : Heard s nos) (sec rest : List ℕ) (radio : List Noise) (t : List Passing) (u : ProviderAnswer) (v : ReceiverAnswer) where
+    module _ (s : Sent) (heard : Heard s nos) (sec rest : List ℕ) (radio : List Noise) (t : List Passing) (u : ProviderAnswer) (v : ReceiverAnswer) where
       -- the close finds another sum: the section is dropped, and asked for again
       refuses : checksum sec ≢ checksum o
           → ((t′ : List Passing) → Adds t t′ 1 0
-          → Ends m (Ex m (ask m (ack m 4 nos) ∷ []) (ack m 4 nos) l acc [] (sec ++ rest) radio t′ u (RA.Send (ack m 4 nos))))
+          → Ends m (Ex m (ask m (ack m 4 nos) ∷ []) (ack m 4 nos) l acc [] (sec ++ rest) radio t′ u RA.Send))
           → Ends m (Ex m (tell m (closeFrame (P m) nos 3 o) ∷ []) s l acc sec rest radio t u v)
-      unfolding onClose when
+      unfolding onClose toSend awaited when
       refuses differs =
           takes m s l acc sec rest radio t u v _ []
-          (λ t′. Ex m (ask m (ack m 4 nos) ∷ []) (ack m 4 nos) l acc [] (sec ++ rest) radio t′ u (RA.Send (ack m 4 nos)))
+          (λ t′. Ex m (ask m (ack m 4 nos) ∷ []) (ack m 4 nos) l acc [] (sec ++ rest) radio t′ u RA.Send)
           refl refl refl (heard .close _ _)
-          (simp (section-dropped (R m (S.Frame s) l (length acc) (length sec)) acc sec rest refl refl nos (record { value = checksum o }) differs))
+          (simp (section-dropped (R m s l (length acc) (length sec)) acc sec rest refl refl nos (record { value = checksum o }) differs))
 
       -- the same sum: it is accepted
       pub accepts : checksum sec ≡ checksum o
           → ((t′ : List Passing) → Adds t t′ 1 0
-          → Ends m (Ex m (ask m (ack m 3 nos) ∷ []) (ack m 3 nos) l (acc ++ sec) [] rest radio t′ u (RA.Send (ack m 3 nos))))
+          → Ends m (Ex m (ask m (ack m 3 nos) ∷ []) (ack m 3 nos) l (acc ++ sec) [] rest radio t′ u RA.Send))
           → Ends m (Ex m (tell m (closeFrame (P m) nos 3 o) ∷ []) s l acc sec rest radio t u v)
-      unfolding onClose when
+      unfolding onClose toSend awaited when
       accepts equals =
           takes m s l acc sec rest radio t u v _ []
-          (λ t′. Ex m (ask m (ack m 3 nos) ∷ []) (ack m 3 nos) l (acc ++ sec) [] rest radio t′ u (RA.Send (ack m 3 nos)))
+          (λ t′. Ex m (ask m (ack m 3 nos) ∷ []) (ack m 3 nos) l (acc ++ sec) [] rest radio t′ u RA.Send)
           refl refl refl (heard .close _ _)
-          (simp (section-accepted (R m (S.Frame s) l (length acc) (length sec)) acc sec rest refl refl nos (record { value = checksum o }) equals, length-append, append-assoc))
+          (simp (section-accepted (R m s l (length acc) (length sec)) acc sec rest refl refl nos (record { value = checksum o }) equals, length-append, append-assoc))
 
   -- a section request and a negative acknowledgement are answered by the section
   pub heard-call : (nos : Nos) → Heard (sc m 6 nos) nos
@@ -179,11 +180,11 @@ module _ (m : Transfer) where
 
   module _ (wide : 0 < limit) (l : Length) (nos : Nos) (acc o : List ℕ) (is : octetsOf (P m) (m .file) nos ≡ o) where
     -- a damaged sending passes: nothing is kept of it, and the next one begins
-    damaged-one : (radio : List Noise) (x : Noise) (s : Frame) (rest : List ℕ) (t : List Passing) (u : ProviderAnswer) (v : ReceiverAnswer)
+    damaged-one : (radio : List Noise) (x : Noise) (s : Sent) (rest : List ℕ) (t : List Passing) (u : ProviderAnswer) (v : ReceiverAnswer)
         → Meets m (nos .value) radio → Heard s nos → Damaged limit o x → length o ≤ length rest
         → ((t′ : List Passing) → Adds t t′ (divCeil (length o) limit + 1) 1
         → Ends m (Ex m (flown (nextSending true radio (segments limit o)) (packets nos o)) (ack m 4 nos) l acc [] (arrived (x (segments limit o)) ++ drop (length (arrived (x (segments limit o)))) rest)
-        (sendingsLeft true radio) t′ (PA.Running (Section nos)) (RA.Send (ack m 4 nos))))
+        (sendingsLeft true radio) t′ (PA.Running (Section nos)) RA.Send))
         → Ends m (Ex m (flown (x (segments limit o)) (packets nos o)) s l acc [] rest radio t u v)
     damaged-one radio x s rest t u v own heard bad fits k =
         sending-passes wide l nos acc o radio s (x (segments limit o)) rest t u v heard (bad .0) fits
@@ -193,9 +194,9 @@ module _ (m : Transfer) where
 
     -- all of them, up to the intact one: the store behind the section is as it was
     pub damaged-pass : (good : Noise) (radio all : List Noise) → ((done left : List Noise) → done ++ left ≡ all → Meets m (nos .value) (left ++ (good ∷ radio)))
-        → (done xs : List Noise) → done ++ xs ≡ all → (s : Frame) (rest : List ℕ) (t : List Passing) (u : ProviderAnswer) (v : ReceiverAnswer)
+        → (done xs : List Noise) → done ++ xs ≡ all → (s : Sent) (rest : List ℕ) (t : List Passing) (u : ProviderAnswer) (v : ReceiverAnswer)
         → Heard s nos → AllDamaged limit o xs → length o ≤ length rest
-        → ((s′ : Frame) (rest′ : List ℕ) (t′ : List Passing) (u′ : ProviderAnswer) (v′ : ReceiverAnswer)
+        → ((s′ : Sent) (rest′ : List ℕ) (t′ : List Passing) (u′ : ProviderAnswer) (v′ : ReceiverAnswer)
         → Heard s′ nos → length rest′ ≡ length rest → drop (length o) rest′ ≡ drop (length o) rest
         → Adds t t′ (length xs * (divCeil (length o) limit + 1)) (length xs)
         → Ends m (Ex m (flown (good (segments limit o)) (packets nos o)) s′ l acc [] rest′ radio t′ u′ v′))

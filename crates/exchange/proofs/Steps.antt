@@ -11,7 +11,6 @@ use Rattle.laws.specs.When.{when}
 use Rattle.asdu.specs.Sizes.{segmentLimit}
 use Rattle.asdu.specs.declared.file.Nos.{Nos}
 use Rattle.frame.specs.declared.Frame.{Frame}
-use Rattle.frame.specs.declared.Frame.the-variants as F
 use Rattle.frame.specs.Frames.{receiverSide, ioaOf}
 use Rattle.frame.specs.Ranges.{segmentInRange, valuesInRange}
 use Rattle.frame.specs.Answers.{answersTo}
@@ -21,8 +20,10 @@ use Rattle.provide.specs.declared.Reply.{Reply}
 use Rattle.provide.specs.declared.ProviderStep.{ProviderStep}
 use Rattle.provide.specs.declared.ProviderAnswer.{ProviderAnswer}
 use Rattle.provide.specs.declared.ProviderAnswer.the-variants as PA
-use Rattle.receive.specs.Answers.{onAnswered}
+use Rattle.receive.specs.Record.{frameOf}
+use Rattle.receive.specs.Answers.{onAnswered, toSend}
 use Rattle.receive.specs.declared.Length.{Length}
+use Rattle.receive.specs.declared.Sent.{Sent}
 use Rattle.receive.specs.declared.Sent.the-variants as S
 use Rattle.receive.specs.declared.ReceiverAnswer.{ReceiverAnswer}
 use Rattle.receive.specs.declared.ReceiverAnswer.the-variants as RA
@@ -60,12 +61,12 @@ module _ (m : Transfer) where
       × Along k e × Transferred m (run (m .file) (m .headers) k e)
 
   -- an exchange under way: the store is what is accepted, what is under way, and the rest; t was passed
-  abbrev pub Ex : List Passing → Frame → Length → List ℕ → List ℕ → List ℕ → List Noise → List Passing → ProviderAnswer → ReceiverAnswer → Exchange
+  abbrev pub Ex : List Passing → Sent → Length → List ℕ → List ℕ → List ℕ → List Noise → List Passing → ProviderAnswer → ReceiverAnswer → Exchange
   Ex q s l acc sec rest radio t u v =
       record {
         queue = q;
         provider = P m;
-        receiver = R m (S.Frame s) l (length acc) (length sec);
+        receiver = R m s l (length acc) (length sec);
         store = acc ++ (sec ++ rest);
         radio = radio;
         passed = t;
@@ -73,14 +74,18 @@ module _ (m : Transfer) where
         receiverSaid = v;
       }
 
-  abbrev pub sc : ℕ → Nos → Frame
-  sc action nos = F.Sc (m .object) (m .name) nos (record { action = action; error = 0 })
+  -- what the Receiver sends, its frame, and that frame on its way
+  abbrev pub sc : ℕ → Nos → Sent
+  sc action nos = S.Request action nos
 
-  abbrev pub ack : ℕ → Nos → Frame
-  ack action nos = F.Ack (m .object) (m .name) nos (record { action = action; error = 0 })
+  abbrev pub ack : ℕ → Nos → Sent
+  ack action nos = S.Acknowledgement action nos
 
-  abbrev pub ask : Frame → Passing
-  ask f = untouched byReceiver (bare f)
+  abbrev pub asking : Sent → Frame
+  asking s = frameOf (m .object) (m .name) s
+
+  abbrev pub ask : Sent → Passing
+  ask s = untouched byReceiver (bare (asking s))
 
   abbrev pub tell : Frame → Passing
   tell f = untouched byProvider (bare f)
@@ -104,7 +109,7 @@ module _ (m : Transfer) where
     subst (λ (z : Exchange). Transferred m (run (m .file) (m .headers) k z)) (sym does) ends,
   )
 
-  module _ (s : Frame) (l : Length) (acc sec rest : List ℕ) where
+  module _ (s : Sent) (l : Length) (acc sec rest : List ℕ) where
     room : length acc + length sec ≤ length (acc ++ (sec ++ rest))
     room = simp length-append (omega arith)
 
@@ -135,9 +140,9 @@ module _ (m : Transfer) where
 
       -- the Receiver takes a frame that is no segment
       pub takes : (f : Frame) (q : List Passing) (e : List Passing → Exchange) → receiverSide f ≡ false → ioaOf f ≡ m .object
-          → valuesInRange (m .provider-station .sizes) f [] ≡ true → answersTo s f ≡ true
+          → valuesInRange (m .provider-station .sizes) f [] ≡ true → answersTo (asking s) f ≡ true
           → taken (Ex (tell f ∷ q) s l acc sec rest radio t u v) (tell f) q
-          (onAnswered (R m (S.Frame s) l (length acc) (length sec)) (acc ++ (sec ++ rest)) [] f) ≡ e (t ++ (tell f ∷ []))
+          (onAnswered (R m s l (length acc) (length sec)) (acc ++ (sec ++ rest)) [] f) ≡ e (t ++ (tell f ∷ []))
           → ((t′ : List Passing) → Adds t t′ 1 0 → Ends (e t′))
           → Ends (Ex (tell f ∷ q) s l acc sec rest radio t u v)
       takes f q e side object fits right does k =
@@ -154,14 +159,14 @@ module _ (m : Transfer) where
 
       -- one that arrives, as x
       pub gains : (nos : Nos) (o x : List ℕ) (q : List Passing) → 1 ≤ length o → length o ≤ segmentLimit (m .provider-station .sizes)
-          → length x ≡ length o → length o ≤ length rest → answersTo s (segmentPacket (P m) nos o .frame) ≡ true
+          → length x ≡ length o → length o ≤ length rest → answersTo (asking s) (segmentPacket (P m) nos o .frame) ≡ true
           → ((t′ : List Passing) → Adds t t′ 1 0 → Ends (Ex q s l acc (sec ++ x) (drop (length x) rest) radio t′ u RA.Running))
           → Ends (Ex (hit nos o (arrives x) ∷ q) s l acc sec rest radio t u v)
-      unfolding segmentInRange when
+      unfolding segmentInRange toSend when
       gains nos o x q some short alike fits right k =
           back (hit nos o (arrives x)) _ (Ex q s l acc (sec ++ x) (drop (length x) rest) radio (t ++ (hit nos o (arrives x) ∷ [])) u RA.Running) tt
           (ap (taken (Ex (hit nos o (arrives x) ∷ q) s l acc sec rest radio t u v) (hit nos o (arrives x)) q)
           (receiver-hears m s l _ _ _ x _ _ room (m .sound t (hit nos o (arrives x))) refl refl
           (simp (alike, eq-eqb (length o) (length o) refl, le-leb 1 (length o) some, le-leb (length o) (segmentLimit (m .provider-station .sizes)) short)) right)
-          ∙ simp (segment-taken (R m (S.Frame s) l (length acc) (length sec)) acc sec rest refl refl x (omega arith), length-append sec x, append-nil)) refl
+          ∙ simp (segment-taken (R m s l (length acc) (length sec)) acc sec rest refl refl x (omega arith), length-append sec x, append-nil)) refl
           (k _ (adds t (hit nos o (arrives x))))

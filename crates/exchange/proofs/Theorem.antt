@@ -20,14 +20,15 @@ use Rattle.provide.specs.declared.ProviderAnswer.the-variants as PA
 use Rattle.provide.proofs.Building.{wide}
 use Rattle.provide.proofs.Facts.{selects-file, requests-file}
 use Rattle.provide.proofs.SectionLaws.{some-section}
-use Rattle.receive.specs.Answers.{onFileReady}
+use Rattle.receive.specs.Record.{awaited}
+use Rattle.receive.specs.Answers.{onFileReady, toSend}
 use Rattle.receive.specs.declared.Sent.the-variants as S
 use Rattle.receive.specs.declared.Length.the-variants.{Unknown, Known}
 use Rattle.receive.specs.declared.ReceiverAnswer.the-variants as RA
 use Rattle.exchange.specs.Exchange.{Exchange, begun}
 use Rattle.exchange.specs.Transfer.{Transfer, Transferred, TwoPartyTransfer, Radio, inOrder, sendingFrames, damagedSendings, providerFrames, receiverFrames, exchanged}
 use Rattle.exchange.proofs.Hearing.{P, R, short, settings, provider-fresh, receiver-fresh, starts}
-use Rattle.exchange.proofs.Steps.{Ends, Ex, sc, ask, asked-sc, takes}
+use Rattle.exchange.proofs.Steps.{Ends, Ex, sc, asking, ask, asked-sc, takes}
 use Rattle.exchange.proofs.Sendings.{limit}
 use Rattle.exchange.proofs.Sections.{Awaits, size, count, number, Pass, sections-pass}
 
@@ -38,7 +39,7 @@ module _ (m : Transfer) where
   abbrev none : Nos
   none = record { value = 0 }
 
-  offers : (x : Lof) → answersTo (sc m 1 none) (F.FileReady (m .object) (m .name) x (record { value = 0; «negative_confirm» = false })) ≡ true
+  offers : (x : Lof) → answersTo (asking m (sc m 1 none)) (F.FileReady (m .object) (m .name) x (record { value = 0; «negative_confirm» = false })) ≡ true
   unfolding answersTo namesAgree calledSection scAnswered when
   offers x = simp (eq-eqb (m .object) (m .object) refl, eq-eqb (m .name .value) (m .name .value) refl)
 
@@ -51,12 +52,12 @@ module _ (m : Transfer) where
       → Radio (limit m) (parts (suc c) (size m) (m .file)) (m .radio)
       → 2 + suc c + sendingFrames (limit m) (parts (suc c) (size m) (m .file)) (m .radio) ≡ providerFrames m
       → 3 + 2 * suc c + damagedSendings (m .radio) ≡ receiverFrames m
-      → Ends m (Ex m (ask m (sc m 1 none) ∷ []) (sc m 1 none) Unknown [] [] (m .store) (inOrder (m .radio)) [] (PA.Running Nothing) (RA.Send (sc m 1 none)))
-  unfolding onFileReady Pass when
+      → Ends m (Ex m (ask m (sc m 1 none) ∷ []) (sc m 1 none) Unknown [] [] (m .store) (inOrder (m .radio)) [] (PA.Running Nothing) RA.Send)
+  unfolding onFileReady Pass toSend awaited when
   opens c e hit na mb =
       asked-sc m (sc m 1 none) Unknown [] [] (m .store) (inOrder (m .radio)) [] _ _ none 1 FileReady refl (selects-file (P m) none 0) tt
       (λ t₁ d₁. takes m (sc m 1 none) Unknown [] [] (m .store) (inOrder (m .radio)) t₁ _ _ (fileReady (P m)) []
-      (λ t′. Ex m (ask m (sc m 2 none) ∷ []) (sc m 2 none) (Known (length (m .file))) [] [] (m .store) (inOrder (m .radio)) t′ (PA.Running FileReady) (RA.Send (sc m 2 none)))
+      (λ t′. Ex m (ask m (sc m 2 none) ∷ []) (sc m 2 none) (Known (length (m .file))) [] [] (m .store) (inOrder (m .radio)) t′ (PA.Running FileReady) RA.Send)
       refl refl (simp (le-leb (length (m .file)) 0xFFFFFF (short m))) (offers _) refl
       (λ t₂ d₂. asked-sc m (sc m 2 none) (Known (length (m .file))) [] [] (m .store) (inOrder (m .radio)) t₂ _ _ none 2 (SectionReady (number m 0)) refl (requests-file (P m) none 0) tt
       (λ t₃ d₃. sections-pass m fits c 0 (m .radio) [] (m .file) (m .store) t₃ _ _ (sc m 2 none)
@@ -67,6 +68,7 @@ module _ (m : Transfer) where
       → 2 + c + sendingFrames (limit m) (parts c (size m) (m .file)) (m .radio) ≡ providerFrames m
       → 3 + 2 * c + damagedSendings (m .radio) ≡ receiverFrames m
       → Ends m (begun (P m) (R m S.Nothing Unknown 0 0) (m .store) (inOrder (m .radio)))
+  unfolding toSend awaited when
   begins zero e hit na mb = absurd (omega (arith, some-section (length (m .file))))
   begins (suc c) e hit na mb = rw (starts m) (opens c e hit na mb)
 

@@ -14,7 +14,7 @@ use Rattle.asdu.specs.declared.header.Header.{Header}
 use Rattle.asdu.specs.declared.header.UnknownField.{UnknownField}
 use Rattle.frame.specs.declared.Frame.{Frame}
 use Rattle.ft.specs.Admission.{onAsdu}
-use Rattle.ft.specs.declared.admit.Received.{Received}
+use Rattle.ft.specs.declared.admit.Received.the-variants as D
 use Rattle.ft.specs.declared.admit.Reaction.the-variants as A
 use Rattle.provide.specs.Sections.{sectionLength, sectionCount, sectionOctets}
 use Rattle.provide.specs.Record.{fileAgrees, ended, counted}
@@ -26,11 +26,11 @@ use Rattle.provide.proofs.SectionLaws.{enough}
 
 module _ (p : Provider) where
   -- a request that is admitted is heard
-  pub request-heard : (file : List ℕ) (h : Header) (unknown : UnknownField) (received : Received) (beside : List ℕ) (f : Frame)
-      → fileAgrees p file ≡ true → p .done ≡ false → onAsdu (p .procedure) h unknown received beside ≡ A.Requested f
-      → provide p file h unknown received beside ≡ onRequest p f
+  pub request-heard : (file : List ℕ) (h : Header) (unknown : UnknownField) (f : Frame) (beside : List ℕ)
+      → fileAgrees p file ≡ true → p .done ≡ false → onAsdu (p .procedure) h unknown (D.Frame f) beside ≡ A.Requested
+      → provide p file h unknown (D.Frame f) beside ≡ onRequest p f
   unfolding provide when
-  request-heard file h unknown received beside f agrees goes admitted = simp (agrees, goes, admitted)
+  request-heard file h unknown f beside agrees goes admitted = simp (agrees, goes, admitted)
 
   pub ours-heard : (f : Frame) → isOurs p f ≡ true → onRequest p f ≡ onOurs p f
   unfolding onRequest when

@@ -13,10 +13,11 @@ use Rattle.frame.specs.declared.Frame.{Frame}
 use Rattle.frame.specs.declared.Frame.the-variants as F
 use Rattle.ft.specs.Admission.{onAsdu}
 use Rattle.ft.specs.declared.admit.Received.{Received}
+use Rattle.ft.specs.declared.admit.Received.the-variants as D
 use Rattle.ft.specs.declared.admit.Reaction.{Reaction}
 use Rattle.ft.specs.declared.admit.Reaction.the-variants as A
 use Rattle.provide.specs.declared.ProviderAnswer.{ProviderAnswer}
-use Rattle.provide.specs.Requests.{stepped, onSc, onAck, onOurs, onRequest, provideAdmitted, provide, isRefusal}
+use Rattle.provide.specs.Requests.{stepped, onSc, onAck, onOurs, onRequest, onRequested, provideAdmitted, provide, isRefusal}
 use Rattle.provide.specs.declared.Provider.{Provider}
 use Rattle.provide.specs.declared.ProviderStep.{ProviderStep}
 
@@ -59,18 +60,22 @@ module _ (p : Provider) where
   unfolding onRequest
   request-keeps f = either p _ _ _ (ours-keep f) (other p _ refl)
 
-  admitted-keeps : (a : Reaction) → Keeps p (provideAdmitted p a)
-  admitted-keeps (A.Requested f) = request-keeps f
-  admitted-keeps (A.Answered f) = same p _
-  admitted-keeps (A.Refused cause mirror) = other p _ refl
-  admitted-keeps (A.Discard why) = same p _
-  admitted-keeps A.Other = same p _
-  admitted-keeps (A.Err x) = same p _
+  requested-keeps : (x : Received) → Keeps p (onRequested p x)
+  requested-keeps (D.Frame f) = request-keeps f
+  requested-keeps D.Undecodable = same p _
+
+  admitted-keeps : (received : Received) (a : Reaction) → Keeps p (provideAdmitted p received a)
+  admitted-keeps received A.Requested = requested-keeps received
+  admitted-keeps received A.Answered = same p _
+  admitted-keeps received (A.Refused cause mirror) = other p _ refl
+  admitted-keeps received (A.Discard why) = same p _
+  admitted-keeps received A.Other = same p _
+  admitted-keeps received (A.Err x) = same p _
 
   provide-keeps : (file : List ℕ) (h : Header) (unknown : UnknownField) (received : Received) (beside : List ℕ)
       → Keeps p (provide p file h unknown received beside)
   unfolding provide
-  provide-keeps file h unknown received beside = either p _ _ _ (either p _ _ _ (same p _) (admitted-keeps (onAsdu (p .procedure) h unknown received beside))) (same p _)
+  provide-keeps file h unknown received beside = either p _ _ _ (either p _ _ _ (same p _) (admitted-keeps received (onAsdu (p .procedure) h unknown received beside))) (same p _)
 
   pub refusal-keeps : (file : List ℕ) (h : Header) (unknown : UnknownField) (received : Received) (beside : List ℕ)
       → isRefusal (provide p file h unknown received beside .answer) ≡ true → provide p file h unknown received beside .provider ≡ p

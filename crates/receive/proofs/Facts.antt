@@ -19,7 +19,7 @@ use Rattle.asdu.specs.declared.error.FtError.the-variants as E
 use Rattle.frame.specs.declared.Frame.{Frame}
 use Rattle.ft.specs.Checksum.{checksum}
 use Rattle.ft.specs.Admission.{onAnswer}
-use Rattle.ft.specs.declared.admit.Received.{Received}
+use Rattle.ft.specs.declared.admit.Received.the-variants as D
 use Rattle.ft.specs.declared.admit.Reaction.the-variants as A
 use Rattle.receive.specs.Record.{storeAgrees, holding, awaited, stepped}
 use Rattle.receive.specs.Answers.{asks, closing, leaving, onSectionClose, onFileClose, onSegment, onAnswered, receive}
@@ -29,11 +29,11 @@ use Rattle.receive.specs.declared.ReceiverAnswer.the-variants.{Running, 
 use Rattle.receive.proofs.StoreLaws.{written-after, staged-part, kept-part}
 
 -- an answer to what was asked is acted upon
-pub answer-heard : (r : Receiver) (store : List ℕ) (h : Header) (unknown : UnknownField) (received : Received) (beside : List ℕ) (f : Frame)
-    → storeAgrees r store ≡ true → r .done ≡ false → onAnswer (r .procedure) h unknown received beside (awaited r) ≡ A.Answered f
-    → receive r store h unknown received beside ≡ onAnswered r store beside f
+pub answer-heard : (r : Receiver) (store : List ℕ) (h : Header) (unknown : UnknownField) (f : Frame) (beside : List ℕ)
+    → storeAgrees r store ≡ true → r .done ≡ false → onAnswer (r .procedure) h unknown (D.Frame f) beside (awaited r) ≡ A.Answered
+    → receive r store h unknown (D.Frame f) beside ≡ onAnswered r store beside f
 unfolding receive when
-answer-heard r store h unknown received beside f agrees goes admitted = simp (agrees, goes, admitted)
+answer-heard r store h unknown f beside agrees goes admitted = simp (agrees, goes, admitted)
 
 module _ (r : Receiver) (acc sec rest : List ℕ) (kept : r .kept ≡ length acc) (staged : r .staged ≡ length sec) where
   abbrev store : List ℕ

@@ -15,6 +15,7 @@ use Rattle.asdu.specs.declared.header.UnknownField.{UnknownField}
 use Rattle.frame.specs.declared.Frame.{Frame}
 use Rattle.frame.specs.declared.Frame.the-variants as F
 use Rattle.ft.specs.declared.admit.Received.{Received}
+use Rattle.ft.specs.declared.admit.Received.the-variants as D
 use Rattle.ft.specs.declared.admit.Reaction.{Reaction}
 use Rattle.ft.specs.declared.admit.Reaction.the-variants as A
 use Rattle.ft.specs.Admission.{onAnswer}
@@ -23,7 +24,7 @@ use Rattle.ft.specs.declared.build.AsduResult.{AsduResult}
 use Rattle.ft.specs.declared.build.AsduResult.the-variants as B
 use Rattle.receive.specs.declared.ReceiverAnswer.{ReceiverAnswer}
 use Rattle.receive.specs.Record.{select, awaited, stepped, startedWith, started}
-use Rattle.receive.specs.Answers.{Outcome, leaving, onFileReady, onSectionReady, onSectionClose, onFileClose, onClose, onSegment, onAnswered, receiveAdmitted, receive, isRefusal}
+use Rattle.receive.specs.Answers.{Outcome, leaving, onFileReady, onSectionReady, onSectionClose, onFileClose, onClose, onSegment, onAnswered, onReceived, receiveAdmitted, receive, isRefusal}
 use Rattle.receive.specs.declared.Receiver.{Receiver}
 use Rattle.receive.specs.declared.ReceiverStep.{ReceiverStep}
 
@@ -96,19 +97,23 @@ module _ (r : Receiver) (store : List ℕ) where
   answered-keeps payload (F.Directory ioa cause) = same-all r store _
   answered-keeps payload (F.QueryLog ioa nof start stop) = same-all r store _
 
-  admitted-keeps : (payload : List ℕ) (a : Reaction) → KeepsAll r store (receiveAdmitted r store payload a)
-  admitted-keeps payload (A.Requested f) = same-all r store _
-  admitted-keeps payload (A.Answered f) = answered-keeps payload f
-  admitted-keeps payload (A.Refused cause mirror) = other-all r store _ refl
-  admitted-keeps payload (A.Discard why) = same-all r store _
-  admitted-keeps payload A.Other = same-all r store _
-  admitted-keeps payload (A.Err x) = same-all r store _
+  received-keeps : (payload : List ℕ) (x : Received) → KeepsAll r store (onReceived r store payload x)
+  received-keeps payload (D.Frame f) = answered-keeps payload f
+  received-keeps payload D.Undecodable = same-all r store _
+
+  admitted-keeps : (payload : List ℕ) (received : Received) (a : Reaction) → KeepsAll r store (receiveAdmitted r store payload received a)
+  admitted-keeps payload received A.Requested = same-all r store _
+  admitted-keeps payload received A.Answered = received-keeps payload received
+  admitted-keeps payload received (A.Refused cause mirror) = other-all r store _ refl
+  admitted-keeps payload received (A.Discard why) = same-all r store _
+  admitted-keeps payload received A.Other = same-all r store _
+  admitted-keeps payload received (A.Err x) = same-all r store _
 
   receive-keeps : (h : Header) (unknown : UnknownField) (received : Received) (beside : List ℕ)
       → KeepsAll r store (receive r store h unknown received beside)
   unfolding receive
   receive-keeps h unknown received beside =
-      either-all r store _ _ _ (either-all r store _ _ _ (same-all r store _) (admitted-keeps beside (onAnswer (r .procedure) h unknown received beside (awaited r)))) (same-all r store _)
+      either-all r store _ _ _ (either-all r store _ _ _ (same-all r store _) (admitted-keeps beside received (onAnswer (r .procedure) h unknown received beside (awaited r)))) (same-all r store _)
 
   pub refusal-keeps : (h : Header) (unknown : UnknownField) (received : Received) (beside : List ℕ)
       → isRefusal (receive r store h unknown received beside .step .answer) ≡ true

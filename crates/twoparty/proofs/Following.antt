@@ -1,8 +1,8 @@
 -- The run's record, frame by frame, is the exchange: one step of the record is one step of the exchange that it stands for.
 use Prim.Native.Nat.{ℕ, zero, suc, _+_, _≤_, _<_}
 use mathlib.Core.Path.{_≡_, refl, sym, ap, _∙_}
-use mathlib.Core.Bool.{Bool, true, false}
-use mathlib.Core.List.{List, [], _∷_, _++_, map, append-nil, cons-ne-nil}
+use mathlib.Core.Bool.{Bool, true, false, true≢false}
+use mathlib.Core.List.{List, [], _∷_, _++_, map, append-nil}
 use native.Mathlib.Omega.{arith}
 use native.Mathlib.Numerals.{add-one}
 use native.Mathlib.Decide.{decLt}
@@ -29,12 +29,13 @@ use Rattle.provide.specs.declared.FrameResult.the-variants as F
 use Rattle.provide.specs.declared.Reply.{Reply}
 use Rattle.provide.specs.declared.Reply.the-variants.{Nothing, FileReady, SectionReady, Section, FileClose}
 use Rattle.provide.proofs.Indexed.{count-is, replies-agree}
-use Rattle.receive.specs.Record.{started}
-use Rattle.receive.specs.Answers.{Outcome, receive}
+use Rattle.receive.specs.Record.{awaited, started}
+use Rattle.receive.specs.Answers.{Outcome, receive, sends, toSend}
 use Rattle.receive.specs.declared.Receiver.{Receiver}
 use Rattle.receive.specs.declared.ReceiverAnswer.{ReceiverAnswer}
-use Rattle.receive.specs.declared.ReceiverAnswer.the-variants as RA
-use Rattle.exchange.specs.Exchange.{Side, byReceiver, Passing, untouched, providerSends, receiverSends, isSending, Noise, sent, sendingsLeft, Exchange, provided, taken, stepOn, step, begun}
+use Rattle.receive.specs.declared.ReceiverStep.{ReceiverStep}
+use Rattle.receive.specs.declared.ToSend.the-variants as T
+use Rattle.exchange.specs.Exchange.{Side, byReceiver, Passing, untouched, providerSends, packetsOf, receiverSends, isSending, Noise, sent, sendingsLeft, Exchange, provided, taken, stepOn, step, begun}
 use Rattle.exchange.proofs.Radio.{payloads-behind}
 use Rattle.twoparty.specs.Party.{startedParty, arriving, headerBy, asked, replied, afterProvider, afterReceiver, afterSending, nextFrame, advanced, isOver}
 use Rattle.twoparty.specs.Run.{ownHeaders}
@@ -49,10 +50,11 @@ use Rattle.twoparty.proofs.Tuning.{Unnamed, Tuned, tuned-next, tuned-se
 -- ---- the queue
 
 module _ (p : Provider) (file : List ℕ) where
-  abbrev pub queueOf : Queue → List Passing
-  queueOf Q.Empty = []
-  queueOf (Q.Receiver f) = untouched byReceiver (bare f) ∷ []
-  queueOf (Q.Provider reply i damaged) = drop i (told damaged (replies p file reply))
+  -- the frames on their way between these machines: the Receiver's is the one whose answer its record awaits
+  abbrev pub queueOf : Receiver → Queue → List Passing
+  queueOf r Q.Empty = []
+  queueOf r Q.Receiver = untouched byReceiver (bare (awaited r)) ∷ []
+  queueOf r (Q.Provider reply i damaged) = drop i (told damaged (replies p file reply))
 
   -- what the Provider's answer puts into it
   module _ (damage : List ℕ) (count : ℕ) (r : Radio) (radio : List Noise) (tuned : Tuned damage count r radio) where
@@ -68,32 +70,30 @@ module _ (p : Provider) (file : List ℕ) where
         (tuned-sent damage count p nos (closeFrame p nos 3 (octetsOf p file nos)) (segments (limitOf p) (octetsOf p file nos)) r radio tuned)
     reply-sent (FileClose nos) = one _
 
-    answer-sent : (a : ProviderAnswer) → sent radio (isSending a) (providerSends p file a) ≡ queueOf (replied r a)
-    answer-sent (PA.Running reply) = reply-sent reply
-    answer-sent PA.Complete = refl
-    answer-sent (PA.Deactivated scq) = refl
-    answer-sent (PA.FileRejected afq) = refl
-    answer-sent (PA.Refused cause mirror) = refl
-    answer-sent (PA.Err e) = refl
+    answer-sent : (o : Receiver) (a : ProviderAnswer) → sent radio (isSending a) (providerSends p file a) ≡ queueOf o (replied r a)
+    answer-sent o (PA.Running reply) = reply-sent reply
+    answer-sent o PA.Complete = refl
+    answer-sent o (PA.Deactivated scq) = refl
+    answer-sent o (PA.FileRejected afq) = refl
+    answer-sent o (PA.Refused cause mirror) = refl
+    answer-sent o (PA.Err e) = refl
 
   -- what the Receiver's does: it sends nothing, or there is no rest
-  data Apart (rest : Queue) (a : ReceiverAnswer) : Type 0 where
-    silent : receiverSends a ≡ [] → Apart rest a
-    last : queueOf rest ≡ [] → Apart rest a
+  data Apart (rest : List Passing) (sending : Bool) : Type 0 where
+    silent : sending ≡ false → Apart rest sending
+    last : rest ≡ [] → Apart rest sending
 
-  asked-sent : (rest : Queue) (a : ReceiverAnswer) → Apart rest a → queueOf rest ++ map (untouched byReceiver) (receiverSends a) ≡ queueOf (asked rest a)
-  asked-sent rest RA.Running h = append-nil (queueOf rest)
-  asked-sent rest (RA.Send f) (silent e) = absurd (cons-ne-nil _ _ e)
-  asked-sent rest (RA.Send f) (last e) = rw e
-  asked-sent rest (RA.Complete ack n) (silent e) = absurd (cons-ne-nil _ _ e)
-  asked-sent rest (RA.Complete ack n) (last e) = rw e
-  asked-sent rest (RA.FileNotReady frq) h = append-nil (queueOf rest)
-  asked-sent rest (RA.SectionNotReady nos srq) h = append-nil (queueOf rest)
-  asked-sent rest (RA.FileChecksum ack expected got) (silent e) = absurd (cons-ne-nil _ _ e)
-  asked-sent rest (RA.FileChecksum ack expected got) (last e) = rw e
-  asked-sent rest (RA.UnknownLsq lsq) h = append-nil (queueOf rest)
-  asked-sent rest (RA.Refused cause mirror) h = append-nil (queueOf rest)
-  asked-sent rest (RA.Err e) h = append-nil (queueOf rest)
+  chosen : (r r′ : Receiver) (rest : Queue) (b : Bool) → queueOf r rest ≡ queueOf r′ rest → Apart (queueOf r rest) b
+      → queueOf r rest ++ map (untouched byReceiver) (packetsOf (when b (T.Frame (awaited r′)) T.Nothing)) ≡ queueOf r′ (when b Q.Receiver rest)
+  unfolding when
+  chosen r r′ rest false same h = append-nil (queueOf r rest) ∙ same
+  chosen r r′ rest true same (silent e) = absurd (true≢false e)
+  chosen r r′ rest true same (last e) = rw e
+
+  asked-sent : (r : Receiver) (rest : Queue) (s : ReceiverStep) → queueOf r rest ≡ queueOf (s .receiver) rest → Apart (queueOf r rest) (sends (s .answer))
+      → queueOf r rest ++ map (untouched byReceiver) (receiverSends s) ≡ queueOf (s .receiver) (asked rest (s .answer))
+  unfolding toSend asked
+  asked-sent r rest s same apart = chosen r (s .receiver) rest (sends (s .answer)) same apart
 
   -- ---- a frame of a reply is its last, or a segment
 
@@ -133,7 +133,7 @@ module _ (file damage : List ℕ) (ca count : ℕ) where
   abbrev pub standsFor : TwoParty → List ℕ → List Noise → List Passing → ProviderAnswer → ReceiverAnswer → Exchange
   standsFor t store radio ps u v =
       record {
-        queue = queueOf (t .provider) file (t .queue);
+        queue = queueOf (t .provider) file (t .receiver) (t .queue);
         provider = t .provider;
         receiver = t .receiver;
         store = store;
@@ -163,8 +163,8 @@ module _ (file damage : List ℕ) (ca count : ℕ) where
     pub fits : Fits (advanced t file damage store .party)
 
   pub data Sight (t : TwoParty) (store : List ℕ) (radio : List Noise) (ps : List Passing) (u : ProviderAnswer) (v : ReceiverAnswer) : Type 0 where
-    over : queueOf (t .provider) file (t .queue) ≡ [] → isOver t file ≡ true → Sight t store radio ps u v
-    going : (x : Passing) (rest : List Passing) → queueOf (t .provider) file (t .queue) ≡ x ∷ rest → isOver t file ≡ false → Next t store radio ps u v → Sight t store radio ps u v
+    over : queueOf (t .provider) file (t .receiver) (t .queue) ≡ [] → isOver t file ≡ true → Sight t store radio ps u v
+    going : (x : Passing) (rest : List Passing) → queueOf (t .provider) file (t .receiver) (t .queue) ≡ x ∷ rest → isOver t file ≡ false → Next t store radio ps u v → Sight t store radio ps u v
 
   module _ (few : count ≤ 255) (unnamed : Unnamed damage count) (p : Provider) (r : Receiver) (w : Radio)
       (store : List ℕ) (radio : List Noise) (ps : List Passing) (u : ProviderAnswer) (v : ReceiverAnswer)
@@ -187,16 +187,17 @@ module _ (file damage : List ℕ) (ca count : ℕ) where
           passed = ps ++ (x ∷ []);
           providerSaid = s .answer;
           receiverSaid = v;
-        }) (answer-sent (s .provider) file damage count w radio tuned (s .answer))
+        }) (answer-sent (s .provider) file damage count w radio tuned r (s .answer))
 
     still-tuned : (b : Bool) → Tuned damage count (when b (afterSending damage w) w) (sendingsLeft b radio)
     unfolding when
     still-tuned true = tuned-next damage count few unnamed w radio tuned
     still-tuned false = tuned
 
-    asks : (f : Frame) → Fits (with-queue (Q.Receiver f)) → Next (with-queue (Q.Receiver f)) store radio ps u v
+    asks : Fits (with-queue Q.Receiver) → Next (with-queue Q.Receiver) store radio ps u v
     unfolding advanced
-    asks f fits =
+    asks fits =
+        let f : Frame = awaited r in
         let s : ProviderStep = provide p file (headerBy (r .procedure) f) U.Nothing (D.Frame f) [] in
         let same : s .provider .procedure ≡ p .procedure = station-same p file (headerBy (r .procedure) f) U.Nothing (D.Frame f) [] in
         record {
@@ -204,7 +205,7 @@ module _ (file damage : List ℕ) (ca count : ℕ) where
           passing = untouched byReceiver (bare f);
           u′ = s .answer;
           v′ = v;
-          does = rw (← (fits .receiver-ca), ← (fits .receiver-org)) (provider-moves (Q.Receiver f) (untouched byReceiver (bare f)) s);
+          does = rw (← (fits .receiver-ca), ← (fits .receiver-org)) (provider-moves Q.Receiver (untouched byReceiver (bare f)) s);
           tuned = still-tuned (isSending (s .answer));
           fits =
               record {
@@ -217,10 +218,11 @@ module _ (file damage : List ℕ) (ca count : ℕ) where
         }
 
     -- the Receiver is
-    receiver-moves : (q rest : Queue) (x : Passing) (o : Outcome) → Apart p file rest (o .step .answer)
-        → taken (standsFor (with-queue q) store radio ps u v) x (queueOf p file rest) o
+    receiver-moves : (q rest : Queue) (x : Passing) (o : Outcome) → queueOf p file r rest ≡ queueOf p file (o .step .receiver) rest
+        → Apart p file (queueOf p file r rest) (sends (o .step .answer))
+        → taken (standsFor (with-queue q) store radio ps u v) x (queueOf p file r rest) o
         ≡ standsFor (afterReceiver (with-queue q) rest o .party) (afterReceiver (with-queue q) rest o .store) radio (ps ++ (x ∷ [])) u (o .step .answer)
-    receiver-moves q rest x o apart =
+    receiver-moves q rest x o same apart =
         ap (λ (z : List Passing).
         record {
           queue = z;
@@ -231,7 +233,7 @@ module _ (file damage : List ℕ) (ca count : ℕ) where
           passed = ps ++ (x ∷ []);
           providerSaid = u;
           receiverSaid = o .step .answer;
-        }) (asked-sent p file rest (o .step .answer) apart)
+        }) (asked-sent p file r rest (o .step) same apart)
 
     module _ (reply : Reply) (i : ℕ) (d : Bool) where
       -- the rest of the reply, from its frame i on
@@ -247,7 +249,7 @@ module _ (file damage : List ℕ) (ca count : ℕ) where
       abbrev outcome : Outcome
       outcome = receive r store (headerOf ca 0 (x .frame)) U.Nothing (D.Frame (x .frame)) (arriving d i (x .payload))
 
-      apart : Place p file reply i → Apart p file rest (outcome .step .answer)
+      apart : Place p file reply i → Apart p file (queueOf p file r rest) (sends (outcome .step .answer))
       apart (at-end h) = last (told-past d (i + 1) (replies p file reply) (omega arith))
       apart (within nos o is) = silent (rw is (segment-silent r store (arriving d i (x .payload)) _ _ _ _ _))
 
@@ -259,7 +261,7 @@ module _ (file damage : List ℕ) (ca count : ℕ) where
         unfolding replyPayload when
         payload-is = simp (fits .agrees) (replies-agree p file reply (fits .agrees) .payload i (none p file) h)
 
-        first-is : queueOf p file (Q.Provider reply i d) ≡ passingAt d i x ∷ queueOf p file rest
+        first-is : queueOf p file r (Q.Provider reply i d) ≡ passingAt d i x ∷ queueOf p file r rest
         first-is = told-at d i (replies p file reply) (none p file) h ∙ rw (add-one i)
 
         moves : advanced replying file damage store ≡ afterReceiver replying rest outcome
@@ -276,7 +278,7 @@ module _ (file damage : List ℕ) (ca count : ℕ) where
               does =
                   rw moves
                   (ap (λ (z : List Passing). stepOn file (ownHeaders ca) (standsFor replying store radio ps u v) z) first-is
-                  ∙ receiver-moves (Q.Provider reply i d) rest (passingAt d i x) outcome (apart (place p file (fits .agrees) reply i h)));
+                  ∙ receiver-moves (Q.Provider reply i d) rest (passingAt d i x) outcome refl (apart (place p file (fits .agrees) reply i h)));
               tuned = rw moves tuned;
               fits =
                   rw moves
@@ -292,14 +294,14 @@ module _ (file damage : List ℕ) (ca count : ℕ) where
       reply-sight : Fits replying → Dec (i < length (replies p file reply)) → Sight replying store radio ps u v
       unfolding isOver nextFrame when
       reply-sight fits (yes lt) =
-          going (passingAt d i x) (queueOf p file rest) (first-is fits lt) (simp (fits .agrees, frame-is fits lt)) (tells fits lt)
+          going (passingAt d i x) (queueOf p file r rest) (first-is fits lt) (simp (fits .agrees, frame-is fits lt)) (tells fits lt)
       reply-sight fits (no ge) =
           over (told-past d i (replies p file reply) (omega arith)) (simp (fits .agrees, replies-agree p file reply (fits .agrees) .past i (omega arith)))
 
     sight-of : (q : Queue) → Fits (with-queue q) → Sight (with-queue q) store radio ps u v
     unfolding isOver nextFrame when
     sight-of Q.Empty fits = over refl (simp (fits .agrees))
-    sight-of (Q.Receiver f) fits = going (untouched byReceiver (bare f)) [] refl (simp (fits .agrees)) (asks f fits)
+    sight-of Q.Receiver fits = going (untouched byReceiver (bare (awaited r))) [] refl (simp (fits .agrees)) (asks fits)
     sight-of (Q.Provider reply i d) fits = reply-sight reply i d fits (decLt i (length (replies p file reply)))
 
   -- the Receiver's start
@@ -316,7 +318,7 @@ module _ (file damage : List ℕ) (ca count : ℕ) where
         passed = [];
         providerSaid = PA.Running Nothing;
         receiverSaid = started r store .answer;
-      }) (asked-sent p file Q.Empty (started r store .answer) (last refl))
+      }) (asked-sent p file r Q.Empty (started r store) refl (last refl))
 
   -- a record that stands for an exchange: no frame is left of both, or both go on by one
   pub sight : (few : count ≤ 255) (unnamed : Unnamed damage count) (t : TwoParty) (store : List ℕ) (radio : List Noise) (ps : List Passing) (u : ProviderAnswer) (v : ReceiverAnswer)

@@ -18,7 +18,7 @@ use Rattle.asdu.specs.declared.header.Unspecified.{Unspecified}
 use Rattle.asdu.specs.declared.error.FtError.the-variants as E
 use Rattle.frame.specs.declared.Frame.{Frame}
 use Rattle.frame.specs.declared.Frame.the-variants as F
-use Rattle.ft.specs.Admission.{unspecified, mirrored, notServed, unservedBy, unserved, admitFrame, onAsdu, answered, matched, onAnswer}
+use Rattle.ft.specs.Admission.{unspecified, mirrored, notServed, unservedBy, unserved, admitFrame, onAsdu, matched, answering, onAnswer}
 use Rattle.ft.specs.declared.direction.Role.{Role}
 use Rattle.ft.specs.declared.direction.Role.the-variants.{Controlling, Controlled}
 use Rattle.ft.specs.declared.direction.Selection.{Selection}
@@ -28,15 +28,14 @@ use Rattle.ft.specs.declared.admit.Received.the-variants as D
 use Rattle.ft.specs.declared.admit.Reaction.{Reaction}
 use Rattle.ft.specs.declared.admit.Reaction.the-variants as A
 use Rattle.provide.specs.Record.{fileAgrees, ended, counted}
-use Rattle.provide.specs.Requests.{onSc, onAck, onOurs, onRequest, provideAdmitted, provide}
+use Rattle.provide.specs.Requests.{onSc, onAck, onOurs, onRequest, onRequested, provideAdmitted, provide}
 use Rattle.provide.specs.declared.Provider.{Provider}
 use Rattle.provide.specs.declared.ProviderStep.{ProviderStep}
 use Rattle.receive.specs.Record.{awaited, stepped}
-use Rattle.receive.specs.Answers.{Outcome, leaving, onFileReady, onSectionReady, onSectionClose, onFileClose, onClose, onSegment, onAnswered, receiveAdmitted, receive}
+use Rattle.receive.specs.Answers.{Outcome, leaving, onFileReady, onSectionReady, onSectionClose, onFileClose, onClose, onSegment, onAnswered, onReceived, receiveAdmitted, receive, sends}
 use Rattle.receive.specs.declared.Receiver.{Receiver}
 use Rattle.receive.specs.declared.ReceiverAnswer.the-variants as RA
 use Rattle.receive.specs.declared.ReceiverStep.{ReceiverStep}
-use Rattle.exchange.specs.Exchange.{receiverSends}
 
 -- what holds of both holds of the one that a test chooses
 either : {A : Type 0} (P : A → Type 0) (b : Bool) (x y : A) → P x → P y → P (when b x y)
@@ -71,21 +70,25 @@ module _ {B : Type 0} (g : Provider → B) (p : Provider) (over : g (ended p) �
   ours-same (F.Directory ioa cause) = kept _ refl
   ours-same (F.QueryLog ioa nof start stop) = kept _ refl
 
-  admitted-same : (x : Reaction) → Same (provideAdmitted p x)
+  requested-same : (x : Received) → Same (onRequested p x)
   unfolding onRequest
-  admitted-same (A.Requested f) = either Same _ _ _ (ours-same f) (kept _ more)
-  admitted-same (A.Answered f) = kept _ refl
-  admitted-same (A.Refused cause mirror) = kept _ over
-  admitted-same (A.Discard why) = kept _ refl
-  admitted-same A.Other = kept _ refl
-  admitted-same (A.Err e) = kept _ refl
+  requested-same (D.Frame f) = either Same _ _ _ (ours-same f) (kept _ more)
+  requested-same D.Undecodable = kept _ refl
+
+  admitted-same : (received : Received) (x : Reaction) → Same (provideAdmitted p received x)
+  admitted-same received A.Requested = requested-same received
+  admitted-same received A.Answered = kept _ refl
+  admitted-same received (A.Refused cause mirror) = kept _ over
+  admitted-same received (A.Discard why) = kept _ refl
+  admitted-same received A.Other = kept _ refl
+  admitted-same received (A.Err e) = kept _ refl
 
   pub provide-same : (file : List ℕ) (h : Header) (unknown : UnknownField) (received : Received) (beside : List ℕ)
       → g (provide p file h unknown received beside .provider) ≡ g p
   unfolding provide
   provide-same file h unknown received beside =
       let s : Same (provide p file h unknown received beside) =
-      either Same _ _ _ (either Same _ _ _ (kept _ refl) (admitted-same (onAsdu (p .procedure) h unknown received beside))) (kept _ refl) in
+      either Same _ _ _ (either Same _ _ _ (kept _ refl) (admitted-same received (onAsdu (p .procedure) h unknown received beside))) (kept _ refl) in
       s .same
 
 -- the station, and the agreement with the file
@@ -133,37 +136,44 @@ module _ (r : Receiver) where
   answered-stays store payload (F.Directory ioa cause) = unchanged _ refl
   answered-stays store payload (F.QueryLog ioa nof start stop) = unchanged _ refl
 
-  reaction-stays : (store payload : List ℕ) (x : Reaction) → StaysAfter (receiveAdmitted r store payload x)
-  reaction-stays store payload (A.Requested f) = unchanged _ refl
-  reaction-stays store payload (A.Answered f) = answered-stays store payload f
-  reaction-stays store payload (A.Refused cause mirror) = unchanged _ refl
-  reaction-stays store payload (A.Discard why) = unchanged _ refl
-  reaction-stays store payload A.Other = unchanged _ refl
-  reaction-stays store payload (A.Err e) = unchanged _ refl
+  received-stays : (store payload : List ℕ) (x : Received) → StaysAfter (onReceived r store payload x)
+  received-stays store payload (D.Frame f) = answered-stays store payload f
+  received-stays store payload D.Undecodable = unchanged _ refl
+
+  reaction-stays : (store payload : List ℕ) (received : Received) (x : Reaction) → StaysAfter (receiveAdmitted r store payload received x)
+  reaction-stays store payload received A.Requested = unchanged _ refl
+  reaction-stays store payload received A.Answered = received-stays store payload received
+  reaction-stays store payload received (A.Refused cause mirror) = unchanged _ refl
+  reaction-stays store payload received (A.Discard why) = unchanged _ refl
+  reaction-stays store payload received A.Other = unchanged _ refl
+  reaction-stays store payload received (A.Err e) = unchanged _ refl
 
   pub receive-stays : (store : List ℕ) (h : Header) (unknown : UnknownField) (received : Received) (beside : List ℕ)
       → receive r store h unknown received beside .step .receiver .procedure ≡ r .procedure
   unfolding receive
   receive-stays store h unknown received beside =
       let o : StaysAfter (receive r store h unknown received beside) =
-      either StaysAfter _ _ _ (either StaysAfter _ _ _ (unchanged _ refl) (reaction-stays store beside (onAnswer (r .procedure) h unknown received beside (awaited r))))
+      either StaysAfter _ _ _ (either StaysAfter _ _ _ (unchanged _ refl) (reaction-stays store beside received (onAnswer (r .procedure) h unknown received beside (awaited r))))
       (unchanged (leaving store (stepped r (RA.Err E.RecordMismatch))) refl) in
       o .after .stays
 
 -- ---- a segment is answered with no frame
 
-module _ (r : Receiver) (store beside : List ℕ) where
-  record Silent (o : Outcome) : Type 0 where
-    silent : receiverSends (o .step .answer) ≡ []
+module _ (r : Receiver) (store beside : List ℕ) (ioa : ℕ) (nof : Nof) (nos : Nos) (los : Los) where
+  abbrev segment : Received
+  segment = D.Frame (F.Segment ioa nof nos los)
 
-  says-nothing : (o : Outcome) → receiverSends (o .step .answer) ≡ [] → Silent o
+  record Silent (o : Outcome) : Type 0 where
+    silent : sends (o .step .answer) ≡ false
+
+  says-nothing : (o : Outcome) → sends (o .step .answer) ≡ false → Silent o
   says-nothing o e = record { silent = e }
 
   -- a reaction after which the Receiver sends nothing
   record Quiet (x : Reaction) : Type 0 where
-    quiet : Silent (receiveAdmitted r store beside x)
+    quiet : Silent (receiveAdmitted r store beside segment x)
 
-  leaves : (x : Reaction) → receiverSends (receiveAdmitted r store beside x .step .answer) ≡ [] → Quiet x
+  leaves : (x : Reaction) → sends (receiveAdmitted r store beside segment x .step .answer) ≡ false → Quiet x
   leaves x e = record { quiet = says-nothing _ e }
 
   unspecified-quiet : (role : Role) (which : Unspecified) → Quiet (unspecified role which)
@@ -175,37 +185,34 @@ module _ (r : Receiver) (store beside : List ℕ) where
   unserved-quiet Controlled s = leaves _ refl
   unserved-quiet Controlling s = either Quiet _ _ _ (leaves _ refl) (leaves _ refl)
 
-  matched-quiet : (sent : Frame) (x : Reaction) → Quiet x → Quiet (matched sent x)
-  unfolding answered
-  matched-quiet sent (A.Answered f) q = either Quiet _ _ _ q (leaves _ refl)
-  matched-quiet sent (A.Requested f) q = q
-  matched-quiet sent (A.Refused cause mirror) q = q
-  matched-quiet sent (A.Discard why) q = q
-  matched-quiet sent A.Other q = q
-  matched-quiet sent (A.Err e) q = q
+  segment-quiet : Quiet A.Answered
+  unfolding onSegment
+  segment-quiet = record { quiet = either Silent _ _ _ (says-nothing _ refl) (says-nothing _ refl) }
 
-  module _ (ioa : ℕ) (nof : Nof) (nos : Nos) (los : Los) (h : Header) where
-    abbrev segment : Frame
-    segment = F.Segment ioa nof nos los
+  answering-quiet : (sent : Frame) (x : Reaction) → Quiet x → Quiet (answering sent segment x)
+  unfolding matched
+  answering-quiet sent A.Answered q = either Quiet _ _ _ segment-quiet (leaves _ refl)
+  answering-quiet sent A.Requested q = q
+  answering-quiet sent (A.Refused cause mirror) q = q
+  answering-quiet sent (A.Discard why) q = q
+  answering-quiet sent A.Other q = q
+  answering-quiet sent (A.Err e) q = q
 
-    segment-quiet : Quiet (A.Answered segment)
-    unfolding onSegment
-    segment-quiet = record { quiet = either Silent _ _ _ (says-nothing _ refl) (says-nothing _ refl) }
-
-    frame-quiet : (p : FileTransferProcedure) → Quiet (admitFrame p h segment beside)
+  module _ (h : Header) where
+    frame-quiet : (p : FileTransferProcedure) → Quiet (admitFrame p h (F.Segment ioa nof nos los) beside)
     unfolding admitFrame unserved
     frame-quiet p =
         either Quiet _ _ _ (either Quiet _ _ _ (either Quiet _ _ _ (leaves _ refl) segment-quiet) (unserved-quiet (p .role) (p .selection))) (leaves _ refl)
 
-    admission-quiet : (p : FileTransferProcedure) → Quiet (onAsdu p h U.Nothing (D.Frame segment) beside)
+    admission-quiet : (p : FileTransferProcedure) → Quiet (onAsdu p h U.Nothing segment beside)
     unfolding onAsdu mirrored
     admission-quiet p =
         either Quiet _ _ _ (either Quiet _ _ _ (either Quiet _ _ _ (either Quiet _ _ _ (either Quiet _ _ _ (leaves _ refl) (leaves _ refl))
         (either Quiet _ _ _ (unspecified-quiet (p .role) _) (frame-quiet p))) (leaves _ refl)) (leaves _ refl)) (leaves _ refl)
 
-    pub segment-silent : receiverSends (receive r store h U.Nothing (D.Frame segment) beside .step .answer) ≡ []
+    pub segment-silent : sends (receive r store h U.Nothing segment beside .step .answer) ≡ false
     unfolding receive onAnswer
     segment-silent =
-        let o : Silent (receive r store h U.Nothing (D.Frame segment) beside) =
-        either Silent _ _ _ (either Silent _ _ _ (says-nothing _ refl) (matched-quiet (awaited r) _ (admission-quiet (r .procedure)) .quiet)) (says-nothing _ refl) in
+        let o : Silent (receive r store h U.Nothing segment beside) =
+        either Silent _ _ _ (either Silent _ _ _ (says-nothing _ refl) (answering-quiet (awaited r) _ (admission-quiet (r .procedure)) .quiet)) (says-nothing _ refl) in
         o .silent

@@ -1,14 +1,13 @@
-use Rattle.laws.proofs.Decide.{whens, yes, nay}
 use borrow.Author.Needs.{needs}
-use Rattle.ft.specs.Admission.{answered}
 use Rattle.ft.proofs.admit.answered.Statement.{statement}
 use Rattle.ft.proofs.admit.answered.Tie as tie
 
 pub answered-spec : {M : Type 1} → statement M
-unfolding answered
 answered-spec =
     tie.close
     (tie.spec
+    (λ c. search needs)
     (λ c κs. search needs)
-    (λ c. simp (whens, yes (c .before .answers .ensures) (c .if1 .taken)))
-    (λ c. simp (whens, nay (c .before .answers .ensures) (c .if1 .left))))
+    (λ c. search needs)
+    (λ c. simp (c .before .before .received .given .1, ← (c .matched .ensures)))
+    (λ c. simp (c .enum-told .given .1)))

@@ -14,17 +14,17 @@ on-admitted-spec =
     (λ c. search needs)
     (λ c.
     let s = c .before .before in
-    let e = s .before .before .before .reaction .given .1 in
-    (simp e (s .on-answered .ensures .0), simp e (s .on-answered .ensures .1)))
+    let e = s .before .before .enum-told2 .given .1 in
+    (simp e (s .on-received .ensures .0), simp e (s .on-received .ensures .1)))
     (λ c. search needs)
     (λ c κs. search needs)
-    (λ c. let e = c .before .before .reaction2 .given .1 in (simp e (c .ends .ensures), simp e))
+    (λ c. let e = c .before .before .reaction .given .1 in (simp e (c .ends .ensures), simp e))
     (λ c. search needs)
     (λ c κs. search needs)
-    (λ c. let e = c .before .enum-told2 .given .1 in (simp e (c .runs2 .ensures), simp e))
+    (λ c. let e = c .before .enum-told3 .given .1 in (simp e (c .runs2 .ensures), simp e))
     (λ c. search needs)
     (λ c κs. search needs)
-    (λ c. let e = c .before .enum-told3 .given .1 in (simp e (c .runs3 .ensures), simp e))
+    (λ c. let e = c .before .enum-told4 .given .1 in (simp e (c .runs3 .ensures), simp e))
     (λ c. search needs)
     (λ c κs. search needs)
-    (λ c. let e = c .before .before .reaction3 .given .1 in (simp e (c .refuses .ensures), simp e)))
+    (λ c. let e = c .before .before .reaction2 .given .1 in (simp e (c .refuses .ensures), simp e)))

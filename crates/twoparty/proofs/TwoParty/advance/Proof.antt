@@ -12,11 +12,11 @@ advance-spec =
     (λ c. let e = c .enum-told .given .1 in (simp e, simp e))
     (λ c. search needs)
     (λ c κs. search needs)
-    (λ c. let e = c .before .before .queue .given .1 in (simp e (c .to-provider .ensures), simp e))
+    (λ c. let e = c .before .enum-told2 .given .1 in (simp e (c .to-provider .ensures), simp e))
     (λ c. search needs)
     (λ c κs. search needs)
     (λ c. search needs)
     (λ c.
     let r = c .before .before in
-    let e = r .before .before .before .queue2 .given .1 in
+    let e = r .before .before .before .queue .given .1 in
     (simp e (r .to-receiver .ensures .0), simp e (r .to-receiver .ensures .1))))

@@ -7,7 +7,10 @@ to-provider-spec =
     tie.close
     (tie.spec
     (λ c κs. search needs)
+    (λ c κs. search needs)
     (λ c. search needs)
     (λ c κs. search needs)
     (λ c κs. search needs)
-    (λ c. simp (← (c .before .before .before .header-by .ensures)) (simp (← (c .before .on-asdu .ensures), ← (c .after-provider .ensures)))))
+    (λ c.
+    simp (← (c .before .before .before .before .awaited .ensures))
+    (simp (← (c .before .before .before .header-by .ensures)) (simp (← (c .before .on-asdu .ensures), ← (c .after-provider .ensures))))))
