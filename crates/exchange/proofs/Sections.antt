@@ -132,7 +132,7 @@ module _ (m : Transfer) where
           over = refl;
           provider-complete = refl;
           provider-ended = rw (provider-fresh m);
-          receiver-complete = rw (receiver-fresh m, last);
+          receiver-complete = refl;
           receiver-ended = rw (receiver-fresh m, last);
           stored = rw behind;
           provider-sent = omega (arith, adds t (ask m (ack m 1 nos)));
