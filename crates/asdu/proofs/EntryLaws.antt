@@ -13,11 +13,11 @@ use Rattle.laws.specs.When.{when, _and_}
 use Rattle.laws.proofs.Decide.{whens}
 use Rattle.asdu.specs.Time.{timeInRange}
 use Rattle.asdu.specs.Entry.{entryInRange, flag, sofOctet, timeOctets, entryOctets, bitOf, sofOf, timeAt, entryOf, reservedClear, unpacked}
-use Rattle.asdu.specs.declared.file.Sof.{Sof}
-use Rattle.asdu.specs.declared.time.Cp56Time2a.{Cp56Time2a}
-use Rattle.asdu.specs.declared.error.FtError.the-variants.{ValueOutOfRange}
-use Rattle.asdu.specs.declared.entry.DirectoryEntry.{DirectoryEntry}
-use Rattle.asdu.specs.declared.entry.EntryResult.the-variants.{Ok, Err}
+use Rattle.asdu.specs.declared.Sof.{Sof}
+use Rattle.asdu.specs.declared.Cp56Time2a.{Cp56Time2a}
+use Rattle.asdu.specs.declared.FtError.the-variants.{ValueOutOfRange}
+use Rattle.asdu.specs.declared.DirectoryEntry.{DirectoryEntry}
+use Rattle.asdu.specs.declared.EntryResult.the-variants.{Ok, Err}
 use Rattle.asdu.proofs.Octets.{thirteen}
 use Rattle.asdu.proofs.Range.{both, time-fits, entry-fits}
 

@@ -6,7 +6,7 @@ use native.Mathlib.Omega.{arith}
 use lib.ListN.{length, drop-of-length-le}
 use lib.Seq.{sets, sets-eq}
 use Rattle.asdu.specs.Entry.{timeOctets, entryOctets}
-use Rattle.asdu.specs.declared.entry.DirectoryEntry.{DirectoryEntry}
+use Rattle.asdu.specs.declared.DirectoryEntry.{DirectoryEntry}
 
 pub thirteen : (e : DirectoryEntry) → length (entryOctets e) ≡ 13
 unfolding entryOctets timeOctets

@@ -6,8 +6,8 @@ use borrow.Author.Tests.{leb-true}
 use Rattle.laws.specs.When.{when, _and_}
 use Rattle.asdu.specs.Time.{timeInRange}
 use Rattle.asdu.specs.Entry.{entryInRange}
-use Rattle.asdu.specs.declared.time.Cp56Time2a.{Cp56Time2a}
-use Rattle.asdu.specs.declared.entry.DirectoryEntry.{DirectoryEntry}
+use Rattle.asdu.specs.declared.Cp56Time2a.{Cp56Time2a}
+use Rattle.asdu.specs.declared.DirectoryEntry.{DirectoryEntry}
 
 -- two tests that hold together
 pub both : (a b : Bool) → (a and b) ≡ true → (a ≡ true) × (b ≡ true)

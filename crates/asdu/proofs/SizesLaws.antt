@@ -5,7 +5,7 @@ use Prim.Native.Nat.{ℕ, _≤_}
 use native.Mathlib.Omega.{arith}
 use borrow.Author.Tests.{leb-true}
 use Rattle.asdu.specs.Sizes.{within, sizesRight, headerLen, elementRoom, segmentLimit, pageEntries}
-use Rattle.asdu.specs.declared.sizes.AddressSizes.{AddressSizes}
+use Rattle.asdu.specs.declared.AddressSizes.{AddressSizes}
 use Rattle.asdu.proofs.Range.{both}
 
 bounds : (low high x : ℕ) → within low high x ≡ true → (low ≤ x) × (x ≤ high)

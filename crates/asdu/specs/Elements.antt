@@ -3,12 +3,12 @@
 use mathlib.Core.Bool.{Bool}
 use Rattle.laws.specs.When.{_and_}
 use lib.Dec.{leb}
-use Rattle.asdu.specs.declared.file.Frq.{Frq}
-use Rattle.asdu.specs.declared.file.Srq.{Srq}
-use Rattle.asdu.specs.declared.file.Scq.{Scq}
-use Rattle.asdu.specs.declared.file.Afq.{Afq}
-use Rattle.asdu.specs.declared.file.Lof.{Lof}
-use Rattle.asdu.specs.declared.file.Sof.{Sof}
+use Rattle.asdu.specs.declared.Frq.{Frq}
+use Rattle.asdu.specs.declared.Srq.{Srq}
+use Rattle.asdu.specs.declared.Scq.{Scq}
+use Rattle.asdu.specs.declared.Afq.{Afq}
+use Rattle.asdu.specs.declared.Lof.{Lof}
+use Rattle.asdu.specs.declared.Sof.{Sof}
 
 -- seven bits beside the flag
 abbrev pub frqInRange : Frq → Bool

@@ -8,14 +8,14 @@ use Rattle.laws.specs.When.{when, _and_}
 use Rattle.asdu.specs.Elements.{lofInRange, sofInRange}
 use Rattle.asdu.specs.Time.{timeInRange}
 use Rattle.asdu.specs.Sizes.{within}
-use Rattle.asdu.specs.declared.file.Sof.{Sof}
-use Rattle.asdu.specs.declared.time.Cp56Time2a.{Cp56Time2a}
-use Rattle.asdu.specs.declared.entry.DirectoryEntry.{DirectoryEntry}
-use Rattle.asdu.specs.declared.error.FtError.the-variants.{ValueOutOfRange}
-use Rattle.asdu.specs.declared.entry.EntryResult.{EntryResult}
-use Rattle.asdu.specs.declared.entry.EntryResult.the-variants as U
-use Rattle.asdu.specs.declared.entry.Packed.{Packed}
-use Rattle.asdu.specs.declared.entry.Packed.the-variants as P
+use Rattle.asdu.specs.declared.Sof.{Sof}
+use Rattle.asdu.specs.declared.Cp56Time2a.{Cp56Time2a}
+use Rattle.asdu.specs.declared.DirectoryEntry.{DirectoryEntry}
+use Rattle.asdu.specs.declared.FtError.the-variants.{ValueOutOfRange}
+use Rattle.asdu.specs.declared.EntryResult.{EntryResult}
+use Rattle.asdu.specs.declared.EntryResult.the-variants as U
+use Rattle.asdu.specs.declared.Packed.{Packed}
+use Rattle.asdu.specs.declared.Packed.the-variants as P
 
 -- what the bits of the 13 octets can carry; a name has all of its 16 bits
 unfoldable pub entryInRange : DirectoryEntry → Bool

@@ -2,10 +2,10 @@
 use mathlib.Core.Bool.{Bool}
 use Rattle.laws.specs.When.{_and_}
 use lib.Dec.{leb}
-use Rattle.asdu.specs.declared.header.Cause.{Cause}
-use Rattle.asdu.specs.declared.header.Header.{Header}
-use Rattle.asdu.specs.declared.header.Unspecified.{Unspecified}
-use Rattle.asdu.specs.declared.header.Unspecified.the-variants as U
+use Rattle.asdu.specs.declared.Cause.{Cause}
+use Rattle.asdu.specs.declared.Header.{Header}
+use Rattle.asdu.specs.declared.Unspecified.{Unspecified}
+use Rattle.asdu.specs.declared.Unspecified.the-variants as U
 
 -- 44 to 47, in the order of the header's fields
 abbrev pub unspecifiedCause : Unspecified → Cause

@@ -1,7 +1,7 @@
 -- Document 01's number of each refusal: 1 to 11 because of the input, 21 to 26 because of the state.
 use Prim.Native.Nat.{ℕ}
-use Rattle.asdu.specs.declared.error.FtError.{FtError}
-use Rattle.asdu.specs.declared.error.FtError.the-variants as E
+use Rattle.asdu.specs.declared.FtError.{FtError}
+use Rattle.asdu.specs.declared.FtError.the-variants as E
 
 abbrev pub numberOf : FtError → ℕ
 numberOf E.FileTooLong = 1

@@ -3,10 +3,10 @@ use Prim.Native.Nat.{ℕ, _+_, _-_, _/_, min}
 use mathlib.Core.Bool.{Bool}
 use lib.Dec.{eqb, leb}
 use Rattle.laws.specs.When.{when, _and_}
-use Rattle.asdu.specs.declared.error.FtError.the-variants.{InvalidAddressSizes}
-use Rattle.asdu.specs.declared.sizes.AddressSizes.{AddressSizes}
-use Rattle.asdu.specs.declared.sizes.SizesResult.{SizesResult}
-use Rattle.asdu.specs.declared.sizes.SizesResult.the-variants.{Ok, Err}
+use Rattle.asdu.specs.declared.FtError.the-variants.{InvalidAddressSizes}
+use Rattle.asdu.specs.declared.AddressSizes.{AddressSizes}
+use Rattle.asdu.specs.declared.SizesResult.{SizesResult}
+use Rattle.asdu.specs.declared.SizesResult.the-variants.{Ok, Err}
 
 unfoldable pub within : ℕ → ℕ → ℕ → Bool
 within low high x = leb low x and leb x high

@@ -2,7 +2,7 @@
 use mathlib.Core.Bool.{Bool}
 use Rattle.laws.specs.When.{_and_}
 use lib.Dec.{leb}
-use Rattle.asdu.specs.declared.time.Cp56Time2a.{Cp56Time2a}
+use Rattle.asdu.specs.declared.Cp56Time2a.{Cp56Time2a}
 
 unfoldable pub timeInRange : Cp56Time2a → Bool
 timeInRange t =

@@ -1,9 +1,12 @@
 // One entry of a directory, F_DR_TA_1 (IEC 60870-5-101, 7.3.6.7), and the 13 octets that carry it.
-use crate::error::FtError;
-use crate::file::Lof;
-use crate::file::Nof;
-use crate::file::Sof;
-use crate::time::Cp56Time2a;
+use crate::Cp56Time2a;
+use crate::DirectoryEntry;
+use crate::EntryResult;
+use crate::FtError;
+use crate::Lof;
+use crate::Nof;
+use crate::Packed;
+use crate::Sof;
 ghost use mathlib.Core.Path.{_≡_};
 ghost use mathlib.Core.Bool.{true};
 ghost use Prim.Native.Nat.{_+_, _*_, _/_, _%_, _<_, _≤_};
@@ -11,24 +14,6 @@ ghost use lib.ListN.{length, getD};
 ghost use lib.Seq.{sets};
 ghost use Rattle.asdu.specs.Time.{timeInRange};
 ghost use Rattle.asdu.specs.Entry.{entryInRange, flag, sofOctet, timeOctets, entryOctets, bitOf, sofOf, timeAt, entryOf, reservedClear, packAnswer, packInto, unpacked, allClear, pageRight};
-
-pub struct DirectoryEntry {
-    pub nof: Nof,
-    pub lof: Lof,
-    pub sof: Sof,
-    pub time: Cp56Time2a,
-}
-
-pub enum EntryResult {
-    Ok(DirectoryEntry),
-    Err(FtError),
-}
-
-// What packing an entry answers: its octets are written, or they are not and the refusal says why.
-pub enum Packed {
-    Ok,
-    Err(FtError),
-}
 
 impl DirectoryEntry {
     pub const LEN: usize = 13;

@@ -1,29 +1,8 @@
 // Every numbered refusal of document 01, one case each: Rust's AsduError and FtError in one.
-use crate::file::Chs;
+use crate::Chs;
+use crate::FtError;
 ghost use mathlib.Core.Path.{_≡_};
 ghost use Rattle.asdu.specs.Number.{numberOf};
-
-pub enum FtError {
-    // Because of the input.
-    FileTooLong,
-    InvalidAddressSizes,
-    AddressOutOfRange,
-    ValueOutOfRange,
-    EmptySegment,
-    SegmentTooLong,
-    CallDirectoryAction,
-    ChecksumMismatch { expected: Chs, got: Chs },
-    IndexOutOfRange,
-    Undecodable,
-    ScriptMisshapen,
-    // Because of the state.
-    FunctionNotUsed,
-    NotSelectedDirection,
-    EchoMismatch,
-    StoreFull,
-    DirectoryFull,
-    RecordMismatch,
-}
 
 impl FtError {
     // Document 01's number of the refusal.

@@ -1,13 +1,17 @@
 // The elements of the file transfer, IEC 60870-5-101, 7.2.6.28 to 7.2.6.38. Each holds its value as
 // it is; `is_in_range` says whether the element's bits can carry it.
+use crate::Afq;
+use crate::Frq;
+use crate::Lof;
+use crate::Los;
+use crate::Lsq;
+use crate::Nof;
+use crate::Nos;
+use crate::Scq;
+use crate::Sof;
+use crate::Srq;
 ghost use mathlib.Core.Path.{_≡_};
 ghost use Rattle.asdu.specs.Elements.{frqInRange, srqInRange, scqInRange, afqInRange, lofInRange, sofInRange};
-
-// FRQ, the file ready qualifier (7.2.6.28).
-pub struct Frq {
-    pub value: u8,
-    pub negative_confirm: bool,
-}
 
 impl Frq {
     pub const MAX: u8 = 127;
@@ -19,12 +23,6 @@ impl Frq {
     }
 }
 
-// SRQ, the section ready qualifier (7.2.6.29).
-pub struct Srq {
-    pub value: u8,
-    pub not_ready: bool,
-}
-
 impl Srq {
     pub const MAX: u8 = 127;
 
@@ -33,12 +31,6 @@ impl Srq {
     {
         self.value <= Srq::MAX
     }
-}
-
-// SCQ, the select and call qualifier (7.2.6.30).
-pub struct Scq {
-    pub action: u8,
-    pub error: u8,
 }
 
 impl Scq {
@@ -70,11 +62,6 @@ impl Scq {
     }
 }
 
-// LSQ, the last section or segment qualifier (7.2.6.31).
-pub struct Lsq {
-    pub value: u8,
-}
-
 impl Lsq {
     pub const FILE_WITHOUT_DEACTIVATION: u8 = 1;
 
@@ -83,12 +70,6 @@ impl Lsq {
     pub const SECTION_WITHOUT_DEACTIVATION: u8 = 3;
 
     pub const SECTION_WITH_DEACTIVATION: u8 = 4;
-}
-
-// AFQ, the acknowledge file or section qualifier (7.2.6.32).
-pub struct Afq {
-    pub action: u8,
-    pub error: u8,
 }
 
 impl Afq {
@@ -112,27 +93,12 @@ impl Afq {
     }
 }
 
-// NOF, the name of a file (7.2.6.33).
-pub struct Nof {
-    pub value: u16,
-}
-
 impl Nof {
     pub const LEN: usize = 2;
 }
 
-// NOS, the name of a section (7.2.6.34).
-pub struct Nos {
-    pub value: u8,
-}
-
 impl Nos {
     pub const LEN: usize = 1;
-}
-
-// LOF, the length of a file or section (7.2.6.35).
-pub struct Lof {
-    pub value: u32,
 }
 
 impl Lof {
@@ -147,28 +113,10 @@ impl Lof {
     }
 }
 
-// LOS, the length of a segment (7.2.6.36).
-pub struct Los {
-    pub value: u8,
-}
-
 impl Los {
     pub const LEN: usize = 1;
 
     pub const MAX: u8 = 240;
-}
-
-// CHS, the checksum (7.2.6.37).
-pub struct Chs {
-    pub value: u8,
-}
-
-// SOF, the status of a file (7.2.6.38).
-pub struct Sof {
-    pub status: u8,
-    pub last_file_of_directory: bool,
-    pub name_defines_subdirectory: bool,
-    pub transfer_active: bool,
 }
 
 impl Sof {

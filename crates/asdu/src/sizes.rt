@@ -1,9 +1,11 @@
 // The widths of a system's header fields and addresses (IEC 60870-5-104, 9.5), and the lengths that
 // follow from them and from the 249 octets of an ASDU.
-use crate::error::FtError;
-use crate::file::Los;
-use crate::file::Nof;
-use crate::file::Nos;
+use crate::AddressSizes;
+use crate::FtError;
+use crate::Los;
+use crate::Nof;
+use crate::Nos;
+use crate::SizesResult;
 ghost use mathlib.Core.Path.{_≡_};
 ghost use Prim.Native.Nat.{_-_, min};
 ghost use Rattle.asdu.specs.Sizes.{within, sizesRight, sizesMade, hasOriginator, headerLen, maxIoa, maxCommonAddress, elementRoom, segmentLimit, pageEntries};
@@ -16,17 +18,6 @@ pub const MAX_DIRECTORY_FILES: usize = 18;
 
 // The longest segment with the conventional widths.
 pub const MAX_SEGMENT: usize = 236;
-
-pub struct AddressSizes {
-    pub cause_octets: u8,
-    pub common_address_octets: u8,
-    pub information_object_address_octets: u8,
-}
-
-pub enum SizesResult {
-    Ok(AddressSizes),
-    Err(FtError),
-}
 
 // Whether x lies between two numbers, both included.
 fn is_within(low: u8, high: u8, x: u8) -> bool

@@ -1,19 +1,7 @@
 // The binary time of seven octets, CP56Time2a (IEC 60870-5-101, 7.2.6.18).
+use crate::Cp56Time2a;
 ghost use mathlib.Core.Path.{_≡_};
 ghost use Rattle.asdu.specs.Time.{timeInRange};
-
-pub struct Cp56Time2a {
-    pub milliseconds: u16,
-    pub minutes: u8,
-    pub substituted: bool,
-    pub invalid: bool,
-    pub hours: u8,
-    pub summer_time: bool,
-    pub day_of_month: u8,
-    pub day_of_week: u8,
-    pub months: u8,
-    pub years: u8,
-}
 
 impl Cp56Time2a {
     pub const LEN: usize = 7;

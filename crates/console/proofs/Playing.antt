@@ -5,12 +5,12 @@ use Prim.Native.Nat.{ℕ}
 use mathlib.Core.List.{List, []}
 use lib.ListN.{take}
 use lib.Seq.{take-append-seam}
-use Rattle.asdu.specs.declared.error.FtError.{FtError}
+use Rattle.asdu.specs.declared.FtError.{FtError}
 use Rattle.script.specs.Script.{Script}
 use Rattle.script.specs.Answers.{answerOf, fileAfter, damageAfter}
-use Rattle.script.specs.declared.read.Outline.{Outline}
-use Rattle.script.specs.declared.read.ScriptResult.{ScriptResult}
-use Rattle.script.specs.declared.read.ScriptResult.the-variants.{Ok, Err}
+use Rattle.script.specs.declared.Outline.{Outline}
+use Rattle.script.specs.declared.ScriptResult.{ScriptResult}
+use Rattle.script.specs.declared.ScriptResult.the-variants.{Ok, Err}
 use Rattle.twoparty.specs.Run.{refused}
 use Rattle.console.specs.Program.{settingsWith, transferred, played}
 

@@ -2,10 +2,10 @@
 use Prim.Native.Nat.{ℕ}
 use mathlib.Core.Option.{Option, none, some}
 use mathlib.Core.List.{List}
-use Rattle.asdu.specs.declared.file.Nof.{Nof}
-use Rattle.asdu.specs.declared.error.FtError.the-variants.{ScriptMisshapen}
+use Rattle.asdu.specs.declared.Nof.{Nof}
+use Rattle.asdu.specs.declared.FtError.the-variants.{ScriptMisshapen}
 use Rattle.ft.specs.Procedure.{conventional}
-use Rattle.ft.specs.declared.direction.Role.the-variants.{Controlled}
+use Rattle.ft.specs.declared.Role.the-variants.{Controlled}
 use Rattle.script.specs.Script.{Script}
 use Rattle.twoparty.specs.Party.{Ran}
 use Rattle.twoparty.specs.Run.{twoParty, refused}

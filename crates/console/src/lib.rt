@@ -1,15 +1,15 @@
 // A transfer at the console: what document 01 (A transfer script) prints of a script goes to standard
 // output. What is read, run and printed is proved in `script` and `twoparty`; here nothing is decided.
-use asdu::error::FtError;
-use asdu::sizes::AddressSizes;
+use asdu::AddressSizes;
+use asdu::FtError;
 use exchange::Sender;
 use frame::Frame;
-use ft::direction::Role;
+use ft::Role;
 use libc::STDOUT_FILENO;
+use script::Outline;
+use script::ScriptResult;
 use script::line;
 use script::read;
-use script::read::Outline;
-use script::read::ScriptResult;
 use twoparty::Passing;
 use twoparty::RunResult;
 use twoparty::Settings;

@@ -6,7 +6,7 @@ use mathlib.Core.List.{List, [], _∷_, _++_}
 use native.Mathlib.Omega.{arith}
 use native.Mathlib.Nat.{zero-add, suc-add}
 use lib.ListN.{length, length-append}
-use Rattle.asdu.specs.declared.header.Header.{Header}
+use Rattle.asdu.specs.declared.Header.{Header}
 use Rattle.exchange.specs.Exchange.{Side, byProvider, byReceiver, Fate, lost, arrives, Passing, Exchange, handed, passes, Headers, stepOn, step, run, sentBy}
 use Rattle.exchange.specs.Transfer.{Transfer, Transferred, providerFrames, receiverFrames, exchanged}
 use Rattle.exchange.proofs.Steps.{one-side}

@@ -11,10 +11,10 @@ use Rattle.laws.specs.When.{when}
 use Rattle.asdu.specs.Sizes.{maxIoa, maxCommonAddress}
 use Rattle.asdu.specs.Elements.{scqInRange, afqInRange}
 use Rattle.asdu.specs.Header.{isMirror}
-use Rattle.asdu.specs.declared.file.Nos.{Nos}
-use Rattle.asdu.specs.declared.header.Header.{Header}
-use Rattle.asdu.specs.declared.header.Cause.{Cause}
-use Rattle.asdu.specs.declared.header.UnknownField.the-variants as U
+use Rattle.asdu.specs.declared.Nos.{Nos}
+use Rattle.asdu.specs.declared.Header.{Header}
+use Rattle.asdu.specs.declared.Cause.{Cause}
+use Rattle.asdu.specs.declared.UnknownField.the-variants as U
 use Rattle.frame.specs.declared.Frame.{Frame}
 use Rattle.frame.specs.declared.Frame.the-variants as F
 use Rattle.frame.specs.Frames.{typeOf, causeOf, receiverSide, ioaOf, isFileType}
@@ -23,11 +23,11 @@ use Rattle.frame.specs.Answers.{answersTo}
 use Rattle.ft.specs.Directions.{otherRole}
 use Rattle.ft.specs.Procedure.{settled}
 use Rattle.ft.specs.Admission.{serves, frameAgrees, admitFrame, onAsdu, matched, onAnswer}
-use Rattle.ft.specs.declared.direction.Role.{Role}
-use Rattle.ft.specs.declared.direction.Role.the-variants.{Controlling, Controlled}
-use Rattle.ft.specs.declared.procedure.FileTransferProcedure.{FileTransferProcedure}
-use Rattle.ft.specs.declared.admit.Received.the-variants as D
-use Rattle.ft.specs.declared.admit.Reaction.the-variants.{Requested, Answered}
+use Rattle.ft.specs.declared.Role.{Role}
+use Rattle.ft.specs.declared.Role.the-variants.{Controlling, Controlled}
+use Rattle.ft.specs.declared.FileTransferProcedure.{FileTransferProcedure}
+use Rattle.ft.specs.declared.Received.the-variants as D
+use Rattle.ft.specs.declared.Reaction.the-variants.{Requested, Answered}
 use Rattle.provide.specs.Record.{freshProvider, fileAgrees}
 use Rattle.provide.specs.Requests.{onSc, onAck, isOurs, onRequest, provide}
 use Rattle.provide.specs.declared.Provider.{Provider}

@@ -7,9 +7,9 @@ use lib.Dec.{eqb}
 use borrow.Author.Tests.{eqb-true}
 use Rattle.laws.specs.When.{when}
 use Rattle.laws.proofs.Decide.{eqb-at}
-use Rattle.asdu.specs.declared.file.Nos.{Nos}
-use Rattle.asdu.specs.declared.file.Scq.{Scq}
-use Rattle.asdu.specs.declared.file.Afq.{Afq}
+use Rattle.asdu.specs.declared.Nos.{Nos}
+use Rattle.asdu.specs.declared.Scq.{Scq}
+use Rattle.asdu.specs.declared.Afq.{Afq}
 use Rattle.frame.specs.declared.Frame.{Frame}
 use Rattle.frame.specs.Frames.{typeOf}
 use Rattle.provide.specs.Replies.{bare, segmentPacket}

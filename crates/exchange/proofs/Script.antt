@@ -15,7 +15,7 @@ use Rattle.ft.specs.Directions.{usesFunction}
 use Rattle.ft.specs.Procedure.{conventional, addressRight, settled}
 use Rattle.ft.specs.Admission.{serves, frameAgrees, admitFrame, onAsdu, matched, onAnswer}
 use Rattle.ft.specs.Building.{addressed, framed, built}
-use Rattle.ft.specs.declared.direction.Role.the-variants.{Controlling, Controlled}
+use Rattle.ft.specs.declared.Role.the-variants.{Controlling, Controlled}
 use Rattle.provide.specs.Sections.{sectionLength, sectionCount, sections, sectionOctets, segments}
 use Rattle.provide.specs.Record.{freshProvider, providerMade, fileAgrees}
 use Rattle.provide.specs.Requests.{onSc, after, onAck, isOurs, onRequest, provide}

@@ -11,10 +11,10 @@ use lib.Seq.{take-all, drop-drop}
 use borrow.Author.Tests.{le-leb, eq-eqb}
 use Rattle.laws.specs.When.{when}
 use Rattle.lists.specs.Parts.{divCeil, parts}
-use Rattle.asdu.specs.declared.file.Nos.{Nos}
-use Rattle.asdu.specs.declared.file.Lof.{Lof}
-use Rattle.asdu.specs.declared.file.Lsq.{Lsq}
-use Rattle.asdu.specs.declared.file.Chs.{Chs}
+use Rattle.asdu.specs.declared.Nos.{Nos}
+use Rattle.asdu.specs.declared.Lof.{Lof}
+use Rattle.asdu.specs.declared.Lsq.{Lsq}
+use Rattle.asdu.specs.declared.Chs.{Chs}
 use Rattle.frame.specs.declared.Frame.the-variants as F
 use Rattle.frame.specs.Answers.{answersTo, namesAgree, ackAnswered, oneOf}
 use Rattle.ft.specs.Checksum.{checksum}

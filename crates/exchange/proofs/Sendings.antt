@@ -12,10 +12,10 @@ use Rattle.laws.specs.When.{when}
 use Rattle.lists.specs.Parts.{divCeil, joined}
 use Rattle.lists.proofs.Parts.{Fit, length-parts, joined-all, fit-all}
 use Rattle.asdu.specs.Sizes.{segmentLimit}
-use Rattle.asdu.specs.declared.file.Nos.{Nos}
-use Rattle.asdu.specs.declared.file.Los.{Los}
-use Rattle.asdu.specs.declared.file.Lsq.{Lsq}
-use Rattle.asdu.specs.declared.file.Chs.{Chs}
+use Rattle.asdu.specs.declared.Nos.{Nos}
+use Rattle.asdu.specs.declared.Los.{Los}
+use Rattle.asdu.specs.declared.Lsq.{Lsq}
+use Rattle.asdu.specs.declared.Chs.{Chs}
 use Rattle.frame.specs.declared.Frame.{Frame}
 use Rattle.frame.specs.declared.Frame.the-variants as F
 use Rattle.frame.specs.Answers.{answersTo, namesAgree, calledSection, scAnswered, sectionAnswered, ackAnswered, oneOf}

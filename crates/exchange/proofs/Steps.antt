@@ -9,7 +9,7 @@ use lib.ListN.{length, drop, length-append}
 use borrow.Author.Tests.{le-leb, eq-eqb}
 use Rattle.laws.specs.When.{when}
 use Rattle.asdu.specs.Sizes.{segmentLimit}
-use Rattle.asdu.specs.declared.file.Nos.{Nos}
+use Rattle.asdu.specs.declared.Nos.{Nos}
 use Rattle.frame.specs.declared.Frame.{Frame}
 use Rattle.frame.specs.Frames.{receiverSide, ioaOf}
 use Rattle.frame.specs.Ranges.{segmentInRange, valuesInRange}

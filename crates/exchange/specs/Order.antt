@@ -3,8 +3,8 @@ use Prim.Native.Nat.{ℕ, zero, suc, _-_}
 use mathlib.Core.Path.{_≡_}
 use mathlib.Core.List.{List, [], _∷_, _++_}
 use lib.ListN.{drop}
-use Rattle.asdu.specs.declared.header.UnknownField.the-variants as U
-use Rattle.ft.specs.declared.admit.Received.the-variants as D
+use Rattle.asdu.specs.declared.UnknownField.the-variants as U
+use Rattle.ft.specs.declared.Received.the-variants as D
 use Rattle.provide.specs.Requests.{provide}
 use Rattle.provide.specs.declared.ProviderAnswer.{ProviderAnswer}
 use Rattle.provide.specs.declared.ProviderAnswer.the-variants as P

@@ -5,8 +5,8 @@ use mathlib.Core.List.{List, [], _∷_}
 use lib.ListN.{length}
 use Rattle.ft.specs.Procedure.{conventional}
 use Rattle.ft.specs.Building.{headerOf}
-use Rattle.ft.specs.declared.direction.Role.{Role}
-use Rattle.ft.specs.declared.procedure.FileTransferProcedure.{FileTransferProcedure}
+use Rattle.ft.specs.declared.Role.{Role}
+use Rattle.ft.specs.declared.FileTransferProcedure.{FileTransferProcedure}
 use Rattle.provide.specs.Sections.{sectionCount}
 use Rattle.exchange.specs.Exchange.{Side, byProvider, byReceiver, Passing, Headers}
 use Rattle.exchange.specs.Transfer.{Sendings}

@@ -7,14 +7,14 @@ use mathlib.Core.List.{List, [], _∷_, _++_}
 use lib.ListN.{length, drop}
 use Rattle.lists.specs.Parts.{divCeil}
 use Rattle.asdu.specs.Sizes.{segmentLimit, maxCommonAddress}
-use Rattle.asdu.specs.declared.file.Nof.{Nof}
-use Rattle.asdu.specs.declared.header.Header.{Header}
+use Rattle.asdu.specs.declared.Nof.{Nof}
+use Rattle.asdu.specs.declared.Header.{Header}
 use Rattle.frame.specs.declared.Frame.{Frame}
 use Rattle.frame.specs.Frames.{typeOf, causeOf}
 use Rattle.ft.specs.Checksum.{checksum}
 use Rattle.ft.specs.Directions.{otherRole}
 use Rattle.ft.specs.Admission.{serves}
-use Rattle.ft.specs.declared.procedure.FileTransferProcedure.{FileTransferProcedure}
+use Rattle.ft.specs.declared.FileTransferProcedure.{FileTransferProcedure}
 use Rattle.provide.specs.Sections.{sections, segments, sectionCount}
 use Rattle.provide.specs.Record.{providerMade, ended}
 use Rattle.provide.specs.declared.Provider.{Provider}

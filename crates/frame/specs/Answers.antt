@@ -3,15 +3,15 @@ use Prim.Native.Nat.{ℕ}
 use mathlib.Core.Bool.{Bool, true, false}
 use lib.Dec.{eqb}
 use Rattle.laws.specs.When.{when, _and_, _or_}
-use Rattle.asdu.specs.declared.file.Scq.{Scq}
-use Rattle.asdu.specs.declared.file.Nos.{Nos}
+use Rattle.asdu.specs.declared.Scq.{Scq}
+use Rattle.asdu.specs.declared.Nos.{Nos}
 use Rattle.frame.specs.Frames.{ioaOf, typeOf}
 use Rattle.frame.specs.declared.Frame.{Frame}
 use Rattle.frame.specs.declared.Frame.the-variants.{FileReady, SectionReady, Sc, LastSection, Ack, Segment, Directory, QueryLog}
-use Rattle.frame.specs.declared.answer.SomeNof.{SomeNof}
-use Rattle.frame.specs.declared.answer.SomeNof.the-variants as N
-use Rattle.frame.specs.declared.answer.SomeNos.{SomeNos}
-use Rattle.frame.specs.declared.answer.SomeNos.the-variants as S
+use Rattle.frame.specs.declared.SomeNof.{SomeNof}
+use Rattle.frame.specs.declared.SomeNof.the-variants as N
+use Rattle.frame.specs.declared.SomeNos.{SomeNos}
+use Rattle.frame.specs.declared.SomeNos.the-variants as S
 
 -- ---- names
 

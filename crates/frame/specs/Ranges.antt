@@ -9,9 +9,9 @@ use Rattle.asdu.specs.Elements.{frqInRange, srqInRange, scqInRange, afqInRange,
 use Rattle.asdu.specs.Time.{timeInRange}
 use Rattle.asdu.specs.Sizes.{segmentLimit}
 use Rattle.asdu.specs.Entry.{pageRight}
-use Rattle.asdu.specs.declared.file.Los.{Los}
-use Rattle.asdu.specs.declared.header.Cause.{Cause}
-use Rattle.asdu.specs.declared.sizes.AddressSizes.{AddressSizes}
+use Rattle.asdu.specs.declared.Los.{Los}
+use Rattle.asdu.specs.declared.Cause.{Cause}
+use Rattle.asdu.specs.declared.AddressSizes.{AddressSizes}
 use Rattle.frame.specs.declared.Frame.{Frame}
 use Rattle.frame.specs.declared.Frame.the-variants.{FileReady, SectionReady, Sc, LastSection, Ack, Segment, Directory, QueryLog}
 

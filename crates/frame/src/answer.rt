@@ -1,25 +1,15 @@
 // Which frame answers which: the matching of IEC 60870-5-101, 7.4.11, and 60870-5-104, 7.11 and 8.9.
 use crate::Frame;
-use asdu::file::Afq;
-use asdu::file::Nof;
-use asdu::file::Nos;
-use asdu::file::Scq;
-use asdu::header::TypeId;
+use crate::SomeNof;
+use crate::SomeNos;
+use asdu::Afq;
+use asdu::Nof;
+use asdu::Nos;
+use asdu::Scq;
+use asdu::TypeId;
 ghost use mathlib.Core.Path.{_≡_};
 ghost use Rattle.frame.specs.Frames.{typeOf};
 ghost use Rattle.frame.specs.Answers.{nofOf, nosOf, requestedSection, calledSection, nofAgree, nosAgree, refusing, fileAnswered, sectionAnswered, oneOf, scAnswered, ackAnswered, answersType, namesAgree, answersTo};
-
-// A name of file, where a frame has one.
-pub enum SomeNof {
-    Some(Nof),
-    None,
-}
-
-// A name of section, where a frame has one.
-pub enum SomeNos {
-    Some(Nos),
-    None,
-}
 
 // The name of file of a frame; a directory has one for each entry and none of its own.
 pub fn nof_of(frame: Frame) -> SomeNof

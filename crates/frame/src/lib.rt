@@ -4,21 +4,33 @@
 pub mod answer; // which frame answers which
 pub mod range; // whether a frame can be carried
 
-use asdu::file::Afq;
-use asdu::file::Chs;
-use asdu::file::Frq;
-use asdu::file::Lof;
-use asdu::file::Los;
-use asdu::file::Lsq;
-use asdu::file::Nof;
-use asdu::file::Nos;
-use asdu::file::Scq;
-use asdu::file::Srq;
-use asdu::header::Cause;
-use asdu::header::TypeId;
-use asdu::time::Cp56Time2a;
+use asdu::Afq;
+use asdu::Cause;
+use asdu::Chs;
+use asdu::Cp56Time2a;
+use asdu::Frq;
+use asdu::Lof;
+use asdu::Los;
+use asdu::Lsq;
+use asdu::Nof;
+use asdu::Nos;
+use asdu::Scq;
+use asdu::Srq;
+use asdu::TypeId;
 ghost use mathlib.Core.Path.{_≡_};
 ghost use Rattle.frame.specs.Frames.{typeOf, causeOf, receiverSide, ioaOf, isFileType, receiverSideType, scCause};
+
+// A name of file, where a frame has one.
+pub enum SomeNof {
+    Some(Nof),
+    None,
+}
+
+// A name of section, where a frame has one.
+pub enum SomeNos {
+    Some(Nos),
+    None,
+}
 
 pub enum Frame {
     // 120: a file is ready, or is refused.

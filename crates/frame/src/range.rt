@@ -1,11 +1,11 @@
 // Whether every value of a frame, and what stands beside it, is within its element's range. The object
 // address is judged apart, by the width that the system gives it.
 use crate::Frame;
+use asdu::AddressSizes;
+use asdu::Cause;
+use asdu::Los;
 use asdu::entry;
-use asdu::file::Los;
-use asdu::header::Cause;
 use asdu::sizes;
-use asdu::sizes::AddressSizes;
 ghost use mathlib.Core.Path.{_≡_};
 ghost use Rattle.laws.specs.When.{_and_};
 ghost use Rattle.frame.specs.Ranges.{segmentInRange, directoryCause, directoryInRange, valuesInRange};

@@ -6,28 +6,28 @@ use lib.Dec.{eqb, leb}
 use Rattle.laws.specs.When.{when, unless, _and_}
 use Rattle.asdu.specs.Sizes.{maxIoa, maxCommonAddress}
 use Rattle.asdu.specs.Header.{isMirror, unspecifiedCause}
-use Rattle.asdu.specs.declared.sizes.AddressSizes.{AddressSizes}
-use Rattle.asdu.specs.declared.header.Header.{Header}
-use Rattle.asdu.specs.declared.header.UnknownField.{UnknownField}
-use Rattle.asdu.specs.declared.header.UnknownField.the-variants.{Nothing, First}
-use Rattle.asdu.specs.declared.header.Unspecified.{Unspecified}
-use Rattle.asdu.specs.declared.header.Unspecified.the-variants.{TypeIdentification, CommonAddress}
-use Rattle.asdu.specs.declared.header.Discard.the-variants as D
-use Rattle.asdu.specs.declared.error.FtError.the-variants as E
+use Rattle.asdu.specs.declared.AddressSizes.{AddressSizes}
+use Rattle.asdu.specs.declared.Header.{Header}
+use Rattle.asdu.specs.declared.UnknownField.{UnknownField}
+use Rattle.asdu.specs.declared.UnknownField.the-variants.{Nothing, First}
+use Rattle.asdu.specs.declared.Unspecified.{Unspecified}
+use Rattle.asdu.specs.declared.Unspecified.the-variants.{TypeIdentification, CommonAddress}
+use Rattle.asdu.specs.declared.Discard.the-variants as D
+use Rattle.asdu.specs.declared.FtError.the-variants as E
 use Rattle.frame.specs.declared.Frame.{Frame}
 use Rattle.frame.specs.Frames.{typeOf, causeOf, receiverSide, ioaOf, isFileType, receiverSideType}
 use Rattle.frame.specs.Ranges.{valuesInRange}
 use Rattle.frame.specs.Answers.{answersTo}
 use Rattle.ft.specs.Directions.{otherRole, directionFor, usesDirection, usesFunction}
 use Rattle.ft.specs.Procedure.{settled}
-use Rattle.ft.specs.declared.direction.Role.{Role}
-use Rattle.ft.specs.declared.direction.Role.the-variants.{Controlling, Controlled}
-use Rattle.ft.specs.declared.direction.Selection.{Selection}
-use Rattle.ft.specs.declared.procedure.FileTransferProcedure.{FileTransferProcedure}
-use Rattle.ft.specs.declared.admit.Received.{Received}
-use Rattle.ft.specs.declared.admit.Received.the-variants as R
-use Rattle.ft.specs.declared.admit.Reaction.{Reaction}
-use Rattle.ft.specs.declared.admit.Reaction.the-variants.{Requested, Answered, Refused, Discard, Other, Err}
+use Rattle.ft.specs.declared.Role.{Role}
+use Rattle.ft.specs.declared.Role.the-variants.{Controlling, Controlled}
+use Rattle.ft.specs.declared.Selection.{Selection}
+use Rattle.ft.specs.declared.FileTransferProcedure.{FileTransferProcedure}
+use Rattle.ft.specs.declared.Received.{Received}
+use Rattle.ft.specs.declared.Received.the-variants as R
+use Rattle.ft.specs.declared.Reaction.{Reaction}
+use Rattle.ft.specs.declared.Reaction.the-variants.{Requested, Answered, Refused, Discard, Other, Err}
 
 -- whether the station uses the direction of what a station of this role sends
 unfoldable pub serves : FileTransferProcedure → Role → Bool → Bool

@@ -5,18 +5,18 @@ use mathlib.Core.List.{List}
 use lib.Dec.{leb}
 use Rattle.laws.specs.When.{unless, _and_}
 use Rattle.asdu.specs.Sizes.{maxIoa}
-use Rattle.asdu.specs.declared.sizes.AddressSizes.{AddressSizes}
-use Rattle.asdu.specs.declared.header.Header.{Header}
-use Rattle.asdu.specs.declared.error.FtError.the-variants as E
+use Rattle.asdu.specs.declared.AddressSizes.{AddressSizes}
+use Rattle.asdu.specs.declared.Header.{Header}
+use Rattle.asdu.specs.declared.FtError.the-variants as E
 use Rattle.frame.specs.declared.Frame.{Frame}
 use Rattle.frame.specs.Frames.{typeOf, causeOf, receiverSide, ioaOf}
 use Rattle.frame.specs.Ranges.{valuesInRange}
 use Rattle.ft.specs.Directions.{usesFunction}
 use Rattle.ft.specs.Procedure.{addressRight, settled}
 use Rattle.ft.specs.Admission.{serves}
-use Rattle.ft.specs.declared.procedure.FileTransferProcedure.{FileTransferProcedure}
-use Rattle.ft.specs.declared.build.AsduResult.{AsduResult}
-use Rattle.ft.specs.declared.build.AsduResult.the-variants.{Ok, Err}
+use Rattle.ft.specs.declared.FileTransferProcedure.{FileTransferProcedure}
+use Rattle.ft.specs.declared.AsduResult.{AsduResult}
+use Rattle.ft.specs.declared.AsduResult.the-variants.{Ok, Err}
 
 -- the own addresses, and an object address within its width
 unfoldable pub addressed : AddressSizes → ℕ → ℕ → ℕ → Bool

@@ -3,10 +3,10 @@ use Prim.Native.Nat.{ℕ, _+_, _%_}
 use mathlib.Core.List.{List, [], _∷_}
 use lib.Dec.{eqb}
 use Rattle.laws.specs.When.{when}
-use Rattle.asdu.specs.declared.file.Chs.{Chs}
-use Rattle.asdu.specs.declared.error.FtError.the-variants.{ChecksumMismatch}
-use Rattle.ft.specs.declared.checksum.ChecksumResult.{ChecksumResult}
-use Rattle.ft.specs.declared.checksum.ChecksumResult.the-variants.{Ok, Err}
+use Rattle.asdu.specs.declared.Chs.{Chs}
+use Rattle.asdu.specs.declared.FtError.the-variants.{ChecksumMismatch}
+use Rattle.ft.specs.declared.ChecksumResult.{ChecksumResult}
+use Rattle.ft.specs.declared.ChecksumResult.the-variants.{Ok, Err}
 
 unfoldable pub octetSum : List ℕ → ℕ
 octetSum [] = 0

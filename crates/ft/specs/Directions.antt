@@ -2,11 +2,11 @@
 use Prim.Native.Nat.{ℕ, _+_}
 use mathlib.Core.Bool.{Bool, true, false}
 use Rattle.laws.specs.When.{when, _and_, _or_}
-use Rattle.asdu.specs.declared.header.Direction.{Direction}
-use Rattle.asdu.specs.declared.header.Direction.the-variants.{Monitor, Control, Both}
-use Rattle.ft.specs.declared.direction.Role.{Role}
-use Rattle.ft.specs.declared.direction.Role.the-variants.{Controlling, Controlled}
-use Rattle.ft.specs.declared.direction.Selection.{Selection}
+use Rattle.asdu.specs.declared.Direction.{Direction}
+use Rattle.asdu.specs.declared.Direction.the-variants.{Monitor, Control, Both}
+use Rattle.ft.specs.declared.Role.{Role}
+use Rattle.ft.specs.declared.Role.the-variants.{Controlling, Controlled}
+use Rattle.ft.specs.declared.Selection.{Selection}
 
 abbrev pub otherRole : Role → Role
 otherRole Controlling = Controlled

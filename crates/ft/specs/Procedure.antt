@@ -4,14 +4,14 @@ use mathlib.Core.Bool.{Bool, true, false}
 use lib.Dec.{eqb, leb, ltb}
 use Rattle.laws.specs.When.{when, unless, _and_, _or_}
 use Rattle.asdu.specs.Sizes.{sizesRight, hasOriginator, maxCommonAddress}
-use Rattle.asdu.specs.declared.sizes.AddressSizes.{AddressSizes}
-use Rattle.asdu.specs.declared.error.FtError.the-variants.{InvalidAddressSizes, AddressOutOfRange, RecordMismatch}
-use Rattle.ft.specs.declared.direction.Role.{Role}
-use Rattle.ft.specs.declared.direction.Selection.{Selection}
-use Rattle.ft.specs.declared.procedure.FileTransferProcedure.{FileTransferProcedure}
-use Rattle.ft.specs.declared.procedure.ProcedureResult.{ProcedureResult}
-use Rattle.ft.specs.declared.procedure.ProcedureResult.the-variants.{Ok, Err}
-use Rattle.ft.specs.declared.procedure.Addressing.{Addressing}
+use Rattle.asdu.specs.declared.AddressSizes.{AddressSizes}
+use Rattle.asdu.specs.declared.FtError.the-variants.{InvalidAddressSizes, AddressOutOfRange, RecordMismatch}
+use Rattle.ft.specs.declared.Role.{Role}
+use Rattle.ft.specs.declared.Selection.{Selection}
+use Rattle.ft.specs.declared.FileTransferProcedure.{FileTransferProcedure}
+use Rattle.ft.specs.declared.ProcedureResult.{ProcedureResult}
+use Rattle.ft.specs.declared.ProcedureResult.the-variants.{Ok, Err}
+use Rattle.ft.specs.declared.Addressing.{Addressing}
 
 -- the conventional widths: an originator, two octets of common address, three of object address
 abbrev pub conventional : AddressSizes

@@ -1,42 +1,23 @@
 // What a received frame means to a station: document 01's steps 1 to 7, in their order (IEC
 // 60870-5-101, 7.2.3, and 60870-5-104, 7.11).
+use crate::FileTransferProcedure;
+use crate::Reaction;
+use crate::Received;
+use crate::Role;
 use crate::direction;
-use crate::direction::Role;
-use crate::procedure::FileTransferProcedure;
-use asdu::error::FtError;
-use asdu::header;
-use asdu::header::Cause;
-use asdu::header::Discard;
-use asdu::header::Header;
-use asdu::header::UnknownField;
-use asdu::header::Unspecified;
-use asdu::sizes::AddressSizes;
+use asdu::AddressSizes;
+use asdu::Cause;
+use asdu::Discard;
+use asdu::FtError;
+use asdu::Header;
+use asdu::UnknownField;
+use asdu::Unspecified;
+use asdu::headers;
 use frame::Frame;
 use frame::answer;
 use frame::range;
 ghost use mathlib.Core.Path.{_≡_};
 ghost use Rattle.ft.specs.Admission.{serves, unspecified, mirrored, frameAgrees, unserved, admitFrame, admitReceived, admitKnown, onAsdu, matched, answered, onAnswer};
-
-// What came in after the header: a frame, or octets that are none.
-pub enum Received {
-    Frame(Frame),
-    Undecodable,
-}
-
-// What a received frame means, or its numbered refusal. The frame is the one that was handed in.
-pub enum Reaction {
-    // A frame of the receiving side, for the one that provides the file.
-    Requested,
-    // A frame of the providing side, for the one that receives the file.
-    Answered,
-    // The other station refused what this one sent, or, with a mirror to send, this one refuses.
-    Refused { cause: Cause, mirror: bool },
-    // Nothing is to be done, and it may be logged why.
-    Discard(Discard),
-    // Not the file transfer's.
-    Other,
-    Err(FtError),
-}
 
 // The answer to a field that the station does not know: a controlled station sends the mirror, a
 // controlling one discards.
@@ -176,7 +157,7 @@ impl FileTransferProcedure {
         if !frame::is_file_type(header.type_id) {
             return Reaction::Other;
         }
-        if header::is_mirror(header) {
+        if headers::is_mirror(header) {
             return self.on_mirror(header);
         }
         if header.common_address == broadcast {

@@ -1,25 +1,16 @@
 // The frames that a station makes, with the header that they go under: whether the frame can be carried
 // with the system's widths, and whether the station uses its direction.
+use crate::Asdu;
+use crate::AsduResult;
+use crate::FileTransferProcedure;
 use crate::procedure;
-use crate::procedure::FileTransferProcedure;
-use asdu::error::FtError;
-use asdu::header::Header;
-use asdu::sizes::AddressSizes;
+use asdu::AddressSizes;
+use asdu::FtError;
+use asdu::Header;
 use frame::Frame;
 use frame::range;
 ghost use mathlib.Core.Path.{_≡_};
 ghost use Rattle.ft.specs.Building.{addressed, headerOf, framed, built};
-
-// A frame with the facts of its header. What stands beside it is as the caller handed it in.
-pub struct Asdu {
-    pub header: Header,
-    pub frame: Frame,
-}
-
-pub enum AsduResult {
-    Ok(Asdu),
-    Err(FtError),
-}
 
 // Whether the own addresses and the object address can go out with these widths.
 fn is_addressed(sizes: AddressSizes, ca: u16, org: u8, ioa: u32) -> bool

@@ -1,6 +1,7 @@
 // CHS, the checksum of a section or a file (IEC 60870-5-101, 7.2.6.37).
-use asdu::error::FtError;
-use asdu::file::Chs;
+use crate::ChecksumResult;
+use asdu::Chs;
+use asdu::FtError;
 ghost use mathlib.Core.Path.{_≡_};
 ghost use Rattle.ft.specs.Checksum.{checksum, checksumChecked};
 
@@ -15,12 +16,6 @@ pub fn checksum(octets: &[u8]) -> Chs
         i += 1;
     }
     Chs { value: sum }
-}
-
-// What comparing a stated sum with the octets' answers.
-pub enum ChecksumResult {
-    Ok,
-    Err(FtError),
 }
 
 // Whether the stated sum is that of the octets: 8, with both sums, where it is not.

@@ -1,13 +1,9 @@
 // Roles, and the two directions of a file (IEC 60870-5-104, 9.6): who asks for it and who provides it.
-use asdu::header::Direction;
+use crate::Role;
+use crate::Selection;
+use asdu::Direction;
 ghost use mathlib.Core.Path.{_≡_};
 ghost use Rattle.ft.specs.Directions.{otherRole, directionFor, usesDirection, withDirection, flagCount, selectedCount, usesFunction};
-
-// The procedure's role of a station.
-pub enum Role {
-    Controlling,
-    Controlled,
-}
 
 impl Role {
     // The role of the station at the other end.
@@ -40,12 +36,6 @@ pub fn direction_for(sender: Role, receiver_side: bool) -> Direction
             Direction::Monitor
         }
     }
-}
-
-// The two directions that a station may have marked as used.
-pub struct Selection {
-    pub monitor: bool,
-    pub control: bool,
 }
 
 fn flag_count(flag: bool) -> u8

@@ -1,30 +1,14 @@
 // A station's settings: its role, the directions it uses, its own addresses and the system's widths.
-use crate::direction::Role;
-use crate::direction::Selection;
-use asdu::error::FtError;
-use asdu::sizes::AddressSizes;
+use crate::Addressing;
+use crate::FileTransferProcedure;
+use crate::ProcedureResult;
+use crate::Role;
+use crate::Selection;
+use asdu::AddressSizes;
+use asdu::FtError;
 ghost use mathlib.Core.Path.{_≡_};
 ghost use Rattle.ft.specs.Procedure.{addressRight, settled, procedureMade, procedureWith, addressing, conventional};
-ghost use Rattle.ft.specs.declared.direction.Role.the-variants.{Controlling, Controlled};
-
-pub struct FileTransferProcedure {
-    pub role: Role,
-    pub selection: Selection,
-    pub ca: u16,
-    pub org: u8,
-    pub sizes: AddressSizes,
-}
-
-pub enum ProcedureResult {
-    Ok(FileTransferProcedure),
-    Err(FtError),
-}
-
-// The common address and the originator that a station's frames carry.
-pub struct Addressing {
-    pub common_address: u16,
-    pub originator: u8,
-}
+ghost use Rattle.ft.specs.declared.Role.the-variants.{Controlling, Controlled};
 
 // Whether a station may have these addresses as its own: a common address that is not 0 and not
 // broadcast, and an originator only where the header has one.

@@ -1,5 +1,5 @@
 // Lines of output: a name, and what was answered.
-use asdu::error::FtError;
+use asdu::FtError;
 use frame::Frame;
 use libc::STDOUT_FILENO;
 

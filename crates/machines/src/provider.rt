@@ -1,20 +1,20 @@
 // The Provider's cases, on a file of 4,097 octets of 1: section 1 has 4,096, whose sum is 0, and
 // section 2 has one, whose sum is 1, as is the file's.
 use crate::print;
-use asdu::file::Afq;
-use asdu::file::Nof;
-use asdu::file::Nos;
-use asdu::file::Scq;
-use asdu::header::Cause;
-use asdu::header::Header;
-use asdu::header::UnknownField;
-use asdu::sizes::AddressSizes;
-use asdu::time::Cp56Time2a;
+use asdu::AddressSizes;
+use asdu::Afq;
+use asdu::Cause;
+use asdu::Cp56Time2a;
+use asdu::Header;
+use asdu::Nof;
+use asdu::Nos;
+use asdu::Scq;
+use asdu::UnknownField;
 use frame::Frame;
-use ft::admit::Received;
-use ft::direction::Role;
-use ft::direction::Selection;
-use ft::procedure::FileTransferProcedure;
+use ft::FileTransferProcedure;
+use ft::Received;
+use ft::Role;
+use ft::Selection;
 use provide::CountResult;
 use provide::FrameResult;
 use provide::Provider;

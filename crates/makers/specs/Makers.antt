@@ -4,16 +4,16 @@ use mathlib.Core.List.{List, []}
 use lib.Dec.{eqb, leb}
 use lib.ListN.{length}
 use Rattle.laws.specs.When.{when, unless}
-use Rattle.asdu.specs.declared.file.Nof.{Nof}
-use Rattle.asdu.specs.declared.file.Nos.{Nos}
-use Rattle.asdu.specs.declared.file.Scq.{Scq}
-use Rattle.asdu.specs.declared.error.FtError.the-variants as E
+use Rattle.asdu.specs.declared.Nof.{Nof}
+use Rattle.asdu.specs.declared.Nos.{Nos}
+use Rattle.asdu.specs.declared.Scq.{Scq}
+use Rattle.asdu.specs.declared.FtError.the-variants as E
 use Rattle.frame.specs.declared.Frame.{Frame}
 use Rattle.frame.specs.declared.Frame.the-variants.{Sc, Segment}
 use Rattle.ft.specs.Procedure.{conventional}
 use Rattle.ft.specs.Building.{framed}
-use Rattle.ft.specs.declared.build.AsduResult.{AsduResult}
-use Rattle.ft.specs.declared.build.AsduResult.the-variants.{Err}
+use Rattle.ft.specs.declared.AsduResult.{AsduResult}
+use Rattle.ft.specs.declared.AsduResult.the-variants.{Err}
 
 -- a frame that nothing stands beside: 4, then 3
 abbrev pub made : ℕ → ℕ → Frame → AsduResult

@@ -1,24 +1,24 @@
 // A maker for each frame of the file transfer, with the conventional widths: the frame and its header,
 // or 4 where a value is out of range, then 3 where an address is. It asks nothing of a station's
 // directions; a station's own `build` does (IEC 60870-5-101, 7.3.6, and 60870-5-104, 8.9).
-use asdu::error::FtError;
-use asdu::file::Afq;
-use asdu::file::Chs;
-use asdu::file::Frq;
-use asdu::file::Lof;
-use asdu::file::Los;
-use asdu::file::Lsq;
-use asdu::file::Nof;
-use asdu::file::Nos;
-use asdu::file::Scq;
-use asdu::file::Srq;
-use asdu::header::Cause;
+use asdu::AddressSizes;
+use asdu::Afq;
+use asdu::Cause;
+use asdu::Chs;
+use asdu::Cp56Time2a;
+use asdu::Frq;
+use asdu::FtError;
+use asdu::Lof;
+use asdu::Los;
+use asdu::Lsq;
+use asdu::Nof;
+use asdu::Nos;
+use asdu::Scq;
+use asdu::Srq;
 use asdu::sizes;
-use asdu::sizes::AddressSizes;
-use asdu::time::Cp56Time2a;
 use frame::Frame;
+use ft::AsduResult;
 use ft::build;
-use ft::build::AsduResult;
 ghost use mathlib.Core.Path.{_≡_};
 ghost use Rattle.frame.specs.declared.Frame.the-variants as F;
 ghost use Rattle.ft.specs.Procedure.{conventional};

@@ -6,13 +6,13 @@ use mathlib.Core.List.{List}
 use Rattle.laws.specs.When.{when, unless}
 use Rattle.asdu.specs.Sizes.{sizesRight}
 use Rattle.asdu.proofs.Range.{both}
-use Rattle.asdu.specs.declared.error.FtError.the-variants as E
+use Rattle.asdu.specs.declared.FtError.the-variants as E
 use Rattle.ft.specs.Directions.{usesFunction}
 use Rattle.ft.specs.Procedure.{settled, addressRight}
 use Rattle.ft.specs.Admission.{serves}
 use Rattle.ft.specs.Building.{headerOf, addressed, framed, built}
-use Rattle.ft.specs.declared.build.Asdu.{Asdu}
-use Rattle.ft.specs.declared.build.AsduResult.the-variants as A
+use Rattle.ft.specs.declared.Asdu.{Asdu}
+use Rattle.ft.specs.declared.AsduResult.the-variants as A
 use Rattle.provide.specs.Record.{fileAgrees}
 use Rattle.provide.specs.Replies.{fileReady, frameOf, announced}
 use Rattle.provide.specs.declared.Provider.{Provider}

@@ -11,18 +11,18 @@ use Rattle.laws.specs.When.{when, _and_}
 use Rattle.lists.proofs.Parts.{Fit, fit-all}
 use Rattle.asdu.specs.Sizes.{within, sizesRight, headerLen, elementRoom, segmentLimit}
 use Rattle.asdu.proofs.Range.{both}
-use Rattle.asdu.specs.declared.file.Nos.{Nos}
-use Rattle.asdu.specs.declared.sizes.AddressSizes.{AddressSizes}
+use Rattle.asdu.specs.declared.Nos.{Nos}
+use Rattle.asdu.specs.declared.AddressSizes.{AddressSizes}
 use Rattle.frame.specs.Frames.{receiverSide, ioaOf}
 use Rattle.frame.specs.Ranges.{segmentInRange, valuesInRange}
 use Rattle.ft.specs.Directions.{usesFunction}
 use Rattle.ft.specs.Procedure.{settled, addressRight}
 use Rattle.ft.specs.Admission.{serves}
 use Rattle.ft.specs.Building.{headerOf, addressed, framed, built}
-use Rattle.ft.specs.declared.direction.Role.{Role}
-use Rattle.ft.specs.declared.direction.Role.the-variants.{Controlling, Controlled}
-use Rattle.ft.specs.declared.procedure.FileTransferProcedure.{FileTransferProcedure}
-use Rattle.ft.specs.declared.build.AsduResult.the-variants as A
+use Rattle.ft.specs.declared.Role.{Role}
+use Rattle.ft.specs.declared.Role.the-variants.{Controlling, Controlled}
+use Rattle.ft.specs.declared.FileTransferProcedure.{FileTransferProcedure}
+use Rattle.ft.specs.declared.AsduResult.the-variants as A
 use Rattle.provide.specs.Sections.{segments}
 use Rattle.provide.specs.Record.{fileAgrees}
 use Rattle.provide.specs.Replies.{Packet, bare, octetsOf, limitOf, segmentPacket, closeFrame, replies}

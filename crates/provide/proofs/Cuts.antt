@@ -15,8 +15,8 @@ use Rattle.laws.proofs.Decide.{whens}
 use Rattle.lists.specs.Parts.{divCeil}
 use Rattle.lists.proofs.Parts.{ceil-least}
 use Rattle.asdu.specs.Sizes.{segmentLimit, elementRoom}
-use Rattle.asdu.specs.declared.file.Nos.{Nos}
-use Rattle.asdu.specs.declared.sizes.AddressSizes.{AddressSizes}
+use Rattle.asdu.specs.declared.Nos.{Nos}
+use Rattle.asdu.specs.declared.AddressSizes.{AddressSizes}
 use Rattle.provide.specs.Sections.{sectionLength, sectionOctets, segmentOctets}
 use Rattle.provide.specs.Record.{fileAgrees}
 use Rattle.provide.specs.Replies.{octetsOf, limitOf, segmentCount}

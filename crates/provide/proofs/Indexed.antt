@@ -10,8 +10,8 @@ use lib.Seq.{getD-at}
 use borrow.Author.Tests.{lt-ltb, le-ltb, eq-eqb, ne-eqb}
 use Rattle.laws.specs.When.{when}
 use Rattle.lists.proofs.Parts.{length-parts, part-at}
-use Rattle.asdu.specs.declared.file.Nos.{Nos}
-use Rattle.asdu.specs.declared.error.FtError.the-variants as E
+use Rattle.asdu.specs.declared.Nos.{Nos}
+use Rattle.asdu.specs.declared.FtError.the-variants as E
 use Rattle.frame.specs.declared.Frame.{Frame}
 use Rattle.provide.specs.Sections.{segments, segmentOctets}
 use Rattle.provide.specs.Record.{fileAgrees}

@@ -6,11 +6,11 @@ use lib.Dec.{eqb, leb}
 use lib.ListN.{length}
 use Rattle.laws.specs.When.{unless, _and_}
 use Rattle.asdu.specs.Sizes.{sizesRight, maxIoa}
-use Rattle.asdu.specs.declared.file.Nof.{Nof}
-use Rattle.asdu.specs.declared.error.FtError.the-variants as E
+use Rattle.asdu.specs.declared.Nof.{Nof}
+use Rattle.asdu.specs.declared.FtError.the-variants as E
 use Rattle.ft.specs.Procedure.{settled}
 use Rattle.ft.specs.Building.{addressed}
-use Rattle.ft.specs.declared.procedure.FileTransferProcedure.{FileTransferProcedure}
+use Rattle.ft.specs.declared.FileTransferProcedure.{FileTransferProcedure}
 use Rattle.provide.specs.Sections.{sectionLength}
 use Rattle.provide.specs.declared.Provider.{Provider}
 use Rattle.provide.specs.declared.ProviderResult.{ProviderResult}

@@ -7,14 +7,14 @@ use lib.ListN.{length}
 use Rattle.laws.specs.When.{when, unless}
 use Rattle.lists.specs.Parts.{divCeil}
 use Rattle.asdu.specs.Sizes.{segmentLimit}
-use Rattle.asdu.specs.declared.file.Nos.{Nos}
-use Rattle.asdu.specs.declared.error.FtError.the-variants as E
+use Rattle.asdu.specs.declared.Nos.{Nos}
+use Rattle.asdu.specs.declared.FtError.the-variants as E
 use Rattle.frame.specs.declared.Frame.{Frame}
 use Rattle.frame.specs.declared.Frame.the-variants as F
 use Rattle.ft.specs.Checksum.{checksum}
 use Rattle.ft.specs.Building.{built}
-use Rattle.ft.specs.declared.build.AsduResult.{AsduResult}
-use Rattle.ft.specs.declared.build.AsduResult.the-variants as A
+use Rattle.ft.specs.declared.AsduResult.{AsduResult}
+use Rattle.ft.specs.declared.AsduResult.the-variants as A
 use Rattle.provide.specs.Sections.{sectionOctets, segments, segmentOctets}
 use Rattle.provide.specs.Record.{fileAgrees}
 use Rattle.provide.specs.declared.Provider.{Provider}

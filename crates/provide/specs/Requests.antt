@@ -4,22 +4,22 @@ use mathlib.Core.Bool.{Bool, true, false}
 use mathlib.Core.List.{List}
 use lib.Dec.{eqb, ltb}
 use Rattle.laws.specs.When.{when, unless, _and_}
-use Rattle.asdu.specs.declared.file.Nos.{Nos}
-use Rattle.asdu.specs.declared.file.Scq.{Scq}
-use Rattle.asdu.specs.declared.file.Afq.{Afq}
-use Rattle.asdu.specs.declared.header.Header.{Header}
-use Rattle.asdu.specs.declared.header.UnknownField.{UnknownField}
-use Rattle.asdu.specs.declared.error.FtError.the-variants as E
+use Rattle.asdu.specs.declared.Nos.{Nos}
+use Rattle.asdu.specs.declared.Scq.{Scq}
+use Rattle.asdu.specs.declared.Afq.{Afq}
+use Rattle.asdu.specs.declared.Header.{Header}
+use Rattle.asdu.specs.declared.UnknownField.{UnknownField}
+use Rattle.asdu.specs.declared.FtError.the-variants as E
 use Rattle.frame.specs.declared.Frame.{Frame}
 use Rattle.frame.specs.declared.Frame.the-variants as F
-use Rattle.frame.specs.declared.answer.SomeNof.the-variants as N
+use Rattle.frame.specs.declared.SomeNof.the-variants as N
 use Rattle.frame.specs.Frames.{ioaOf}
 use Rattle.frame.specs.Answers.{nofOf, nofAgree}
 use Rattle.ft.specs.Admission.{onAsdu}
-use Rattle.ft.specs.declared.admit.Received.{Received}
-use Rattle.ft.specs.declared.admit.Received.the-variants as D
-use Rattle.ft.specs.declared.admit.Reaction.{Reaction}
-use Rattle.ft.specs.declared.admit.Reaction.the-variants as A
+use Rattle.ft.specs.declared.Received.{Received}
+use Rattle.ft.specs.declared.Received.the-variants as D
+use Rattle.ft.specs.declared.Reaction.{Reaction}
+use Rattle.ft.specs.declared.Reaction.the-variants as A
 use Rattle.provide.specs.Sections.{sectionCount}
 use Rattle.provide.specs.Record.{fileAgrees, ended, counted}
 use Rattle.provide.specs.declared.Provider.{Provider}

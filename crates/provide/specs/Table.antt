@@ -4,12 +4,12 @@ use mathlib.Core.Path.{_≡_}
 use mathlib.Core.Bool.{true}
 use mathlib.Core.List.{[], _∷_}
 use Rattle.asdu.specs.Sizes.{sizesRight, segmentLimit, headerLen}
-use Rattle.asdu.specs.declared.sizes.AddressSizes.{AddressSizes}
-use Rattle.asdu.specs.declared.file.Nof.{Nof}
-use Rattle.asdu.specs.declared.error.FtError.the-variants.{FileTooLong}
+use Rattle.asdu.specs.declared.AddressSizes.{AddressSizes}
+use Rattle.asdu.specs.declared.Nof.{Nof}
+use Rattle.asdu.specs.declared.FtError.the-variants.{FileTooLong}
 use Rattle.ft.specs.Checksum.{checksum}
 use Rattle.ft.specs.Building.{addressed}
-use Rattle.ft.specs.declared.procedure.FileTransferProcedure.{FileTransferProcedure}
+use Rattle.ft.specs.declared.FileTransferProcedure.{FileTransferProcedure}
 use Rattle.provide.specs.Sections.{sectionLength, sectionCount, sections}
 use Rattle.provide.specs.Record.{providerMade}
 use Rattle.provide.specs.declared.ProviderResult.the-variants.{Err}

@@ -5,14 +5,14 @@ mod record; // the Provider's record, its making and its agreement with the lent
 mod request; // what a Provider makes of a received frame
 mod sections; // sections and segments as parts of the lent file
 
-use asdu::error::FtError;
-use asdu::file::Afq;
-use asdu::file::Nof;
-use asdu::file::Nos;
-use asdu::file::Scq;
-use asdu::header::Cause;
+use asdu::Afq;
+use asdu::Cause;
+use asdu::FtError;
+use asdu::Nof;
+use asdu::Nos;
+use asdu::Scq;
 use frame::Frame;
-use ft::procedure::FileTransferProcedure;
+use ft::FileTransferProcedure;
 
 // The section length of a file that needs no longer ones.
 pub const DEFAULT_SECTION_LEN: u32 = 4096;

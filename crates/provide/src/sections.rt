@@ -1,7 +1,7 @@
 // How a file is cut: sections that count from 1 (IEC 60870-5-101, 7.2.6.34), and segments that a frame
 // can carry. A part is named by numbers and handed out of the lent octets; none is copied.
 use crate::DEFAULT_SECTION_LEN;
-use asdu::file::Nos;
+use asdu::Nos;
 ghost use mathlib.Core.Path.{_≡_};
 ghost use Prim.Native.Nat.{_+_, _*_, _≤_, _<_, min};
 ghost use lib.ListN.{take, drop};

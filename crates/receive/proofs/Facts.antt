@@ -11,16 +11,16 @@ use lib.ListN.{length, drop, length-append}
 use borrow.Author.Tests.{eq-eqb, ne-eqb, le-leb, lt-leb}
 use Rattle.laws.specs.When.{when, unless}
 use Rattle.laws.proofs.Decide.{when-true, when-false}
-use Rattle.asdu.specs.declared.file.Nos.{Nos}
-use Rattle.asdu.specs.declared.file.Chs.{Chs}
-use Rattle.asdu.specs.declared.header.Header.{Header}
-use Rattle.asdu.specs.declared.header.UnknownField.{UnknownField}
-use Rattle.asdu.specs.declared.error.FtError.the-variants as E
+use Rattle.asdu.specs.declared.Nos.{Nos}
+use Rattle.asdu.specs.declared.Chs.{Chs}
+use Rattle.asdu.specs.declared.Header.{Header}
+use Rattle.asdu.specs.declared.UnknownField.{UnknownField}
+use Rattle.asdu.specs.declared.FtError.the-variants as E
 use Rattle.frame.specs.declared.Frame.{Frame}
 use Rattle.ft.specs.Checksum.{checksum}
 use Rattle.ft.specs.Admission.{onAnswer}
-use Rattle.ft.specs.declared.admit.Received.the-variants as D
-use Rattle.ft.specs.declared.admit.Reaction.the-variants as A
+use Rattle.ft.specs.declared.Received.the-variants as D
+use Rattle.ft.specs.declared.Reaction.the-variants as A
 use Rattle.receive.specs.Record.{storeAgrees, holding, awaited, stepped}
 use Rattle.receive.specs.Answers.{asks, closing, leaving, onSectionClose, onFileClose, onSegment, onAnswered, receive}
 use Rattle.receive.specs.declared.Sent.the-variants.{Acknowledgement}

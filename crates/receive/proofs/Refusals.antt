@@ -4,24 +4,24 @@ use mathlib.Core.Path.{_≡_, refl}
 use mathlib.Core.Bool.{Bool, true, false}
 use mathlib.Core.List.{List, []}
 use Rattle.laws.specs.When.{when}
-use Rattle.asdu.specs.declared.file.Nos.{Nos}
-use Rattle.asdu.specs.declared.file.Lof.{Lof}
-use Rattle.asdu.specs.declared.file.Frq.{Frq}
-use Rattle.asdu.specs.declared.file.Srq.{Srq}
-use Rattle.asdu.specs.declared.file.Lsq.{Lsq}
-use Rattle.asdu.specs.declared.file.Chs.{Chs}
-use Rattle.asdu.specs.declared.header.Header.{Header}
-use Rattle.asdu.specs.declared.header.UnknownField.{UnknownField}
+use Rattle.asdu.specs.declared.Nos.{Nos}
+use Rattle.asdu.specs.declared.Lof.{Lof}
+use Rattle.asdu.specs.declared.Frq.{Frq}
+use Rattle.asdu.specs.declared.Srq.{Srq}
+use Rattle.asdu.specs.declared.Lsq.{Lsq}
+use Rattle.asdu.specs.declared.Chs.{Chs}
+use Rattle.asdu.specs.declared.Header.{Header}
+use Rattle.asdu.specs.declared.UnknownField.{UnknownField}
 use Rattle.frame.specs.declared.Frame.{Frame}
 use Rattle.frame.specs.declared.Frame.the-variants as F
-use Rattle.ft.specs.declared.admit.Received.{Received}
-use Rattle.ft.specs.declared.admit.Received.the-variants as D
-use Rattle.ft.specs.declared.admit.Reaction.{Reaction}
-use Rattle.ft.specs.declared.admit.Reaction.the-variants as A
+use Rattle.ft.specs.declared.Received.{Received}
+use Rattle.ft.specs.declared.Received.the-variants as D
+use Rattle.ft.specs.declared.Reaction.{Reaction}
+use Rattle.ft.specs.declared.Reaction.the-variants as A
 use Rattle.ft.specs.Admission.{onAnswer}
 use Rattle.ft.specs.Building.{built}
-use Rattle.ft.specs.declared.build.AsduResult.{AsduResult}
-use Rattle.ft.specs.declared.build.AsduResult.the-variants as B
+use Rattle.ft.specs.declared.AsduResult.{AsduResult}
+use Rattle.ft.specs.declared.AsduResult.the-variants as B
 use Rattle.receive.specs.declared.ReceiverAnswer.{ReceiverAnswer}
 use Rattle.receive.specs.Record.{select, awaited, stepped, startedWith, started}
 use Rattle.receive.specs.Answers.{Outcome, leaving, onFileReady, onSectionReady, onSectionClose, onFileClose, onClose, onSegment, onAnswered, onReceived, receiveAdmitted, receive, isRefusal}

@@ -10,13 +10,13 @@ use Rattle.laws.specs.When.{when, unless}
 use Rattle.asdu.specs.Sizes.{sizesRight, maxIoa}
 use Rattle.asdu.specs.Elements.{scqInRange}
 use Rattle.asdu.proofs.Range.{both}
-use Rattle.asdu.specs.declared.error.FtError.the-variants as E
+use Rattle.asdu.specs.declared.FtError.the-variants as E
 use Rattle.ft.specs.Directions.{usesFunction}
 use Rattle.ft.specs.Procedure.{settled, addressRight}
 use Rattle.ft.specs.Admission.{serves}
 use Rattle.ft.specs.Building.{headerOf, addressed, framed, built}
-use Rattle.ft.specs.declared.build.Asdu.{Asdu}
-use Rattle.ft.specs.declared.build.AsduResult.the-variants as A
+use Rattle.ft.specs.declared.Asdu.{Asdu}
+use Rattle.ft.specs.declared.AsduResult.the-variants as A
 use Rattle.receive.specs.Record.{storeAgrees, sending, opening, select, stepped, startedWith, started}
 use Rattle.receive.specs.declared.Receiver.{Receiver}
 use Rattle.receive.specs.declared.ReceiverAnswer.the-variants.{Send, Err}

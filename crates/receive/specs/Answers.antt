@@ -5,23 +5,23 @@ use mathlib.Core.List.{List}
 use lib.Dec.{eqb, leb}
 use lib.ListN.{length}
 use Rattle.laws.specs.When.{when, unless, _or_}
-use Rattle.asdu.specs.declared.file.Nos.{Nos}
-use Rattle.asdu.specs.declared.file.Lof.{Lof}
-use Rattle.asdu.specs.declared.file.Frq.{Frq}
-use Rattle.asdu.specs.declared.file.Srq.{Srq}
-use Rattle.asdu.specs.declared.file.Lsq.{Lsq}
-use Rattle.asdu.specs.declared.file.Chs.{Chs}
-use Rattle.asdu.specs.declared.header.Header.{Header}
-use Rattle.asdu.specs.declared.header.UnknownField.{UnknownField}
-use Rattle.asdu.specs.declared.error.FtError.the-variants as E
+use Rattle.asdu.specs.declared.Nos.{Nos}
+use Rattle.asdu.specs.declared.Lof.{Lof}
+use Rattle.asdu.specs.declared.Frq.{Frq}
+use Rattle.asdu.specs.declared.Srq.{Srq}
+use Rattle.asdu.specs.declared.Lsq.{Lsq}
+use Rattle.asdu.specs.declared.Chs.{Chs}
+use Rattle.asdu.specs.declared.Header.{Header}
+use Rattle.asdu.specs.declared.UnknownField.{UnknownField}
+use Rattle.asdu.specs.declared.FtError.the-variants as E
 use Rattle.frame.specs.declared.Frame.{Frame}
 use Rattle.frame.specs.declared.Frame.the-variants as F
 use Rattle.ft.specs.Checksum.{checksum}
 use Rattle.ft.specs.Admission.{onAnswer}
-use Rattle.ft.specs.declared.admit.Received.{Received}
-use Rattle.ft.specs.declared.admit.Received.the-variants as D
-use Rattle.ft.specs.declared.admit.Reaction.{Reaction}
-use Rattle.ft.specs.declared.admit.Reaction.the-variants as A
+use Rattle.ft.specs.declared.Received.{Received}
+use Rattle.ft.specs.declared.Received.the-variants as D
+use Rattle.ft.specs.declared.Reaction.{Reaction}
+use Rattle.ft.specs.declared.Reaction.the-variants as A
 use Rattle.receive.specs.Record.{storeAgrees, sending, holding, stating, ended, keptOctets, stagedOctets, written, awaited, stepped}
 use Rattle.receive.specs.declared.Sent.{Sent}
 use Rattle.receive.specs.declared.Sent.the-variants.{Request, Acknowledgement}

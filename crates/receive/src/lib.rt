@@ -5,16 +5,16 @@ mod record; // the record: its making, what it holds and what it sends
 mod step; // what a step makes of the record
 mod store; // the octets that are kept, and where a segment is written
 
-use asdu::error::FtError;
-use asdu::file::Chs;
-use asdu::file::Frq;
-use asdu::file::Lsq;
-use asdu::file::Nof;
-use asdu::file::Nos;
-use asdu::file::Srq;
-use asdu::header::Cause;
+use asdu::Cause;
+use asdu::Chs;
+use asdu::Frq;
+use asdu::FtError;
+use asdu::Lsq;
+use asdu::Nof;
+use asdu::Nos;
+use asdu::Srq;
 use frame::Frame;
-use ft::procedure::FileTransferProcedure;
+use ft::FileTransferProcedure;
 
 // What a Receiver last sent of its file: a request or an acknowledgement, by its action and section.
 pub enum Sent {

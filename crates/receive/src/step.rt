@@ -6,7 +6,7 @@ use crate::ReceiverAnswer;
 use crate::ReceiverStep;
 use crate::Sent;
 use crate::ToSend;
-use asdu::error::FtError;
+use asdu::FtError;
 ghost use mathlib.Core.Path.{_≡_};
 ghost use Rattle.receive.specs.Record.{sending, stating, ended, stepped};
 ghost use Rattle.receive.specs.Answers.{asks, sends, toSend};

@@ -1,6 +1,6 @@
 // The lent store: the accepted octets first, then the section under way, and the place after them
 // where the next segment is written.
-use asdu::file::Chs;
+use asdu::Chs;
 use ft::checksum;
 ghost use mathlib.Core.Path.{_≡_};
 ghost use mathlib.Core.List.{_++_};

@@ -3,10 +3,10 @@
 // `FileRejected`.
 use crate::counts;
 use crate::print;
-use asdu::file::Chs;
-use asdu::header::UnknownField;
+use asdu::Chs;
+use asdu::UnknownField;
 use frame::Frame;
-use ft::admit::Received;
+use ft::Received;
 use ft::build;
 use provide::Provider;
 use provide::ProviderAnswer;

@@ -3,10 +3,10 @@
 // holds 236 octets.
 use crate::altered;
 use crate::print;
-use asdu::file::Nof;
-use asdu::sizes::AddressSizes;
+use asdu::AddressSizes;
+use asdu::Nof;
+use ft::Role;
 use ft::checksum;
-use ft::direction::Role;
 use twoparty::Passing;
 use twoparty::Settings;
 use twoparty::TwoParty;

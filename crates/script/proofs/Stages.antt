@@ -8,11 +8,11 @@ use native.Mathlib.Omega.{arith}
 use lib.ListN.{length, take, drop, take-append-drop}
 use lib.Seq.{length-take-le}
 use Rattle.laws.proofs.Decide.{whens}
-use Rattle.asdu.specs.declared.file.Nof.{Nof}
-use Rattle.asdu.specs.declared.error.FtError.{FtError}
-use Rattle.asdu.specs.declared.error.FtError.the-variants.{ScriptMisshapen}
-use Rattle.script.specs.declared.read.Outline.{Outline}
-use Rattle.script.specs.declared.read.ScriptResult.the-variants.{Ok, Err}
+use Rattle.asdu.specs.declared.Nof.{Nof}
+use Rattle.asdu.specs.declared.FtError.{FtError}
+use Rattle.asdu.specs.declared.FtError.the-variants.{ScriptMisshapen}
+use Rattle.script.specs.declared.Outline.{Outline}
+use Rattle.script.specs.declared.ScriptResult.the-variants.{Ok, Err}
 use Rattle.script.specs.Script.{Script}
 use Rattle.script.specs.Reader.{nothing, found, Settings, settings, counted, ends, sections, scriptOf}
 use Rattle.script.specs.Answers.{answerOf, over, Filled, fileAfter, damageAfter}

@@ -4,15 +4,15 @@ use mathlib.Core.Path.{_≡_}
 use mathlib.Core.Option.{Option, none, some}
 use mathlib.Core.List.{List, _++_}
 use lib.ListN.{length, take, drop}
-use Rattle.asdu.specs.declared.error.FtError.the-variants.{ScriptMisshapen}
+use Rattle.asdu.specs.declared.FtError.the-variants.{ScriptMisshapen}
 use Rattle.script.specs.Script.{Script}
 use Rattle.script.specs.Reader.{Found, nothing, found, Settings}
 use Rattle.script.specs.declared.read.Reading.{Reading}
 use Rattle.script.specs.declared.read.Reading.the-variants as R
 use Rattle.script.specs.declared.read.Settings as D
 use Rattle.script.specs.declared.read.Settings.the-variants as S
-use Rattle.script.specs.declared.read.ScriptResult.{ScriptResult}
-use Rattle.script.specs.declared.read.ScriptResult.the-variants.{Ok, Err}
+use Rattle.script.specs.declared.ScriptResult.{ScriptResult}
+use Rattle.script.specs.declared.ScriptResult.the-variants.{Ok, Err}
 
 -- a number found, and the text after its place
 abbrev pub foundAt : List ℕ → Reading → Found ℕ

@@ -1,26 +1,15 @@
 // Reading a script: from a place in the text on, a part of it is found, with the place after it, or
 // it is not there.
-use asdu::error::FtError;
-use asdu::file::Nof;
+use crate::Outline;
+use crate::ScriptResult;
+use asdu::FtError;
+use asdu::Nof;
 ghost use mathlib.Core.Path.{_≡_};
 ghost use mathlib.Core.Bool.{true};
 ghost use Prim.Native.Nat.{_-_, _≤_, _<_};
 ghost use lib.ListN.{length, drop, getD};
 ghost use Rattle.script.specs.Reader.{begins, beginsDigit, more, number, after, numbers, counted, settings, ends, scriptOf};
 ghost use Rattle.script.specs.Answers.{foundAt, octetsAt, Kept, settingsAt, answerOf, Filled, fileAfter, damageAfter};
-
-// What a script says, but for the octets of its file and of its damage, which stand in the buffers.
-pub struct Outline {
-    pub ioa: u32,
-    pub nof: Nof,
-    pub file_len: usize,
-    pub damage_len: usize,
-}
-
-pub enum ScriptResult {
-    Ok(Outline),
-    Err(FtError),
-}
 
 // A number and the place after it.
 enum Reading {

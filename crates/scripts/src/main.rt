@@ -2,9 +2,9 @@
 // output names a case and gives what reading it answers: object address, NOF, the numbers of octets and
 // of damaged sections and the last of each, or the refusal.
 use libc::STDOUT_FILENO;
+use script::Outline;
+use script::ScriptResult;
 use script::read;
-use script::read::Outline;
-use script::read::ScriptResult;
 
 fn text(words: &[u8]) {
     io::write_all(STDOUT_FILENO, words);

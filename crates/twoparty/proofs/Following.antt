@@ -10,12 +10,12 @@ use lib.Dec.{ltb}
 use lib.ListN.{length, drop, getD}
 use borrow.Author.Tests.{lt-ltb}
 use Rattle.laws.specs.When.{when}
-use Rattle.asdu.specs.declared.file.Nos.{Nos}
-use Rattle.asdu.specs.declared.header.UnknownField.the-variants as U
+use Rattle.asdu.specs.declared.Nos.{Nos}
+use Rattle.asdu.specs.declared.UnknownField.the-variants as U
 use Rattle.frame.specs.declared.Frame.{Frame}
 use Rattle.ft.specs.Building.{headerOf}
-use Rattle.ft.specs.declared.admit.Received.the-variants as D
-use Rattle.ft.specs.declared.procedure.FileTransferProcedure.{FileTransferProcedure}
+use Rattle.ft.specs.declared.Received.the-variants as D
+use Rattle.ft.specs.declared.FileTransferProcedure.{FileTransferProcedure}
 use Rattle.provide.specs.Record.{fileAgrees}
 use Rattle.provide.specs.Replies.{Packet, bare, fileReady, segmentFrame, closeFrame, octetsOf, limitOf, segmentCount, segmentOf, replies, sectionFrame, replyFrame, replyPayload}
 use Rattle.provide.specs.Sections.{segments}

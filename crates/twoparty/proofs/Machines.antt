@@ -4,29 +4,29 @@ use mathlib.Core.Path.{_≡_, refl}
 use mathlib.Core.Bool.{Bool, true, false}
 use mathlib.Core.List.{List, []}
 use Rattle.laws.specs.When.{when}
-use Rattle.asdu.specs.declared.file.Nof.{Nof}
-use Rattle.asdu.specs.declared.file.Nos.{Nos}
-use Rattle.asdu.specs.declared.file.Los.{Los}
-use Rattle.asdu.specs.declared.file.Lsq.{Lsq}
-use Rattle.asdu.specs.declared.file.Chs.{Chs}
-use Rattle.asdu.specs.declared.file.Scq.{Scq}
-use Rattle.asdu.specs.declared.file.Afq.{Afq}
-use Rattle.asdu.specs.declared.header.Header.{Header}
-use Rattle.asdu.specs.declared.header.UnknownField.{UnknownField}
-use Rattle.asdu.specs.declared.header.UnknownField.the-variants as U
-use Rattle.asdu.specs.declared.header.Unspecified.{Unspecified}
-use Rattle.asdu.specs.declared.error.FtError.the-variants as E
+use Rattle.asdu.specs.declared.Nof.{Nof}
+use Rattle.asdu.specs.declared.Nos.{Nos}
+use Rattle.asdu.specs.declared.Los.{Los}
+use Rattle.asdu.specs.declared.Lsq.{Lsq}
+use Rattle.asdu.specs.declared.Chs.{Chs}
+use Rattle.asdu.specs.declared.Scq.{Scq}
+use Rattle.asdu.specs.declared.Afq.{Afq}
+use Rattle.asdu.specs.declared.Header.{Header}
+use Rattle.asdu.specs.declared.UnknownField.{UnknownField}
+use Rattle.asdu.specs.declared.UnknownField.the-variants as U
+use Rattle.asdu.specs.declared.Unspecified.{Unspecified}
+use Rattle.asdu.specs.declared.FtError.the-variants as E
 use Rattle.frame.specs.declared.Frame.{Frame}
 use Rattle.frame.specs.declared.Frame.the-variants as F
 use Rattle.ft.specs.Admission.{unspecified, mirrored, notServed, unservedBy, unserved, admitFrame, onAsdu, matched, answering, onAnswer}
-use Rattle.ft.specs.declared.direction.Role.{Role}
-use Rattle.ft.specs.declared.direction.Role.the-variants.{Controlling, Controlled}
-use Rattle.ft.specs.declared.direction.Selection.{Selection}
-use Rattle.ft.specs.declared.procedure.FileTransferProcedure.{FileTransferProcedure}
-use Rattle.ft.specs.declared.admit.Received.{Received}
-use Rattle.ft.specs.declared.admit.Received.the-variants as D
-use Rattle.ft.specs.declared.admit.Reaction.{Reaction}
-use Rattle.ft.specs.declared.admit.Reaction.the-variants as A
+use Rattle.ft.specs.declared.Role.{Role}
+use Rattle.ft.specs.declared.Role.the-variants.{Controlling, Controlled}
+use Rattle.ft.specs.declared.Selection.{Selection}
+use Rattle.ft.specs.declared.FileTransferProcedure.{FileTransferProcedure}
+use Rattle.ft.specs.declared.Received.{Received}
+use Rattle.ft.specs.declared.Received.the-variants as D
+use Rattle.ft.specs.declared.Reaction.{Reaction}
+use Rattle.ft.specs.declared.Reaction.the-variants as A
 use Rattle.provide.specs.Record.{fileAgrees, ended, counted}
 use Rattle.provide.specs.Requests.{onSc, onAck, onOurs, onRequest, onRequested, provideAdmitted, provide}
 use Rattle.provide.specs.declared.Provider.{Provider}

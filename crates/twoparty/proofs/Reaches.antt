@@ -9,8 +9,8 @@ use lib.Dec.{eqb, ltb}
 use lib.ListN.{length}
 use borrow.Author.Tests.{eqb-true, ltb-true, leb-true}
 use Rattle.laws.specs.When.{when}
-use Rattle.asdu.specs.declared.file.Nos.{Nos}
-use Rattle.asdu.specs.declared.error.FtError.{FtError}
+use Rattle.asdu.specs.declared.Nos.{Nos}
+use Rattle.asdu.specs.declared.FtError.{FtError}
 use Rattle.frame.specs.declared.Frame.{Frame}
 use Rattle.provide.specs.Record.{fileAgrees}
 use Rattle.provide.specs.Replies.{octetsOf, limitOf, segmentCount, only, sectionFrame, frameAt, replyFrame, sectionPayload, payloadAt, replyPayload}

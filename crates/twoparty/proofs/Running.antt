@@ -9,13 +9,13 @@ use lib.ListN.{length, length-append}
 use borrow.Author.Tests.{leb-true}
 use Rattle.laws.specs.When.{when}
 use Rattle.asdu.specs.Sizes.{sizesRight, maxIoa}
-use Rattle.asdu.specs.declared.error.FtError.the-variants as E
+use Rattle.asdu.specs.declared.FtError.the-variants as E
 use Rattle.ft.specs.Directions.{otherRole}
 use Rattle.ft.specs.Procedure.{addressRight}
 use Rattle.ft.specs.Building.{addressed, built}
-use Rattle.ft.specs.declared.procedure.FileTransferProcedure.{FileTransferProcedure}
-use Rattle.ft.specs.declared.build.AsduResult.{AsduResult}
-use Rattle.ft.specs.declared.build.AsduResult.the-variants as A
+use Rattle.ft.specs.declared.FileTransferProcedure.{FileTransferProcedure}
+use Rattle.ft.specs.declared.AsduResult.{AsduResult}
+use Rattle.ft.specs.declared.AsduResult.the-variants as A
 use Rattle.provide.specs.Sections.{sectionLength, sectionCount}
 use Rattle.provide.specs.Record.{freshProvider, providerMade}
 use Rattle.provide.specs.declared.ProviderAnswer.{ProviderAnswer}

@@ -7,7 +7,7 @@ use native.Mathlib.Omega.{arith}
 use lib.ListN.{length, drop, getD}
 use borrow.Author.Tests.{ne-eqb}
 use Rattle.laws.specs.When.{when}
-use Rattle.asdu.specs.declared.file.Nos.{Nos}
+use Rattle.asdu.specs.declared.Nos.{Nos}
 use Rattle.frame.specs.declared.Frame.{Frame}
 use Rattle.provide.specs.Replies.{Packet, bare, segmentPacket}
 use Rattle.provide.specs.declared.Provider.{Provider}

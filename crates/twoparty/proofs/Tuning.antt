@@ -9,7 +9,7 @@ use lib.Dec.{ltb}
 use lib.ListN.{length, replicate}
 use borrow.Author.Tests.{lt-ltb, le-ltb}
 use Rattle.laws.specs.When.{when}
-use Rattle.asdu.specs.declared.file.Nos.{Nos}
+use Rattle.asdu.specs.declared.Nos.{Nos}
 use Rattle.frame.specs.declared.Frame.{Frame}
 use Rattle.provide.specs.Replies.{bare, segmentPacket}
 use Rattle.provide.specs.declared.Provider.{Provider}

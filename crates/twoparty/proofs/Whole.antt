@@ -15,8 +15,8 @@ use Rattle.ft.specs.Directions.{otherRole}
 use Rattle.ft.specs.Procedure.{addressRight, settled}
 use Rattle.ft.specs.Building.{addressed}
 use Rattle.ft.specs.Admission.{serves}
-use Rattle.ft.specs.declared.direction.Role.{Role}
-use Rattle.ft.specs.declared.direction.Role.the-variants.{Controlling, Controlled}
+use Rattle.ft.specs.declared.Role.{Role}
+use Rattle.ft.specs.declared.Role.the-variants.{Controlling, Controlled}
 use Rattle.provide.specs.Sections.{sectionLength, sectionCount}
 use Rattle.provide.specs.Record.{providerMade}
 use Rattle.provide.proofs.Building.{wide}

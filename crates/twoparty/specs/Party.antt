@@ -5,17 +5,17 @@ use mathlib.Core.List.{List, [], _∷_}
 use lib.Dec.{eqb, leb, ltb}
 use lib.ListN.{length}
 use Rattle.laws.specs.When.{when, unless, _and_}
-use Rattle.asdu.specs.declared.header.Header.{Header}
-use Rattle.asdu.specs.declared.header.UnknownField.the-variants as U
-use Rattle.asdu.specs.declared.error.FtError.the-variants as E
+use Rattle.asdu.specs.declared.Header.{Header}
+use Rattle.asdu.specs.declared.UnknownField.the-variants as U
+use Rattle.asdu.specs.declared.FtError.the-variants as E
 use Rattle.frame.specs.declared.Frame.{Frame}
 use Rattle.ft.specs.Directions.{otherRole}
 use Rattle.ft.specs.Building.{headerOf}
-use Rattle.ft.specs.declared.admit.Received.the-variants as D
-use Rattle.ft.specs.declared.direction.Role.{Role}
-use Rattle.ft.specs.declared.direction.Role.the-variants.{Controlling, Controlled}
-use Rattle.ft.specs.declared.direction.Selection.{Selection}
-use Rattle.ft.specs.declared.procedure.FileTransferProcedure.{FileTransferProcedure}
+use Rattle.ft.specs.declared.Received.the-variants as D
+use Rattle.ft.specs.declared.Role.{Role}
+use Rattle.ft.specs.declared.Role.the-variants.{Controlling, Controlled}
+use Rattle.ft.specs.declared.Selection.{Selection}
+use Rattle.ft.specs.declared.FileTransferProcedure.{FileTransferProcedure}
 use Rattle.provide.specs.Sections.{sectionOctets}
 use Rattle.provide.specs.Record.{providerMade, fileAgrees}
 use Rattle.provide.specs.Replies.{replyFrame, replyPayload}

@@ -5,8 +5,8 @@ use lib.Dec.{leb}
 use lib.ListN.{length}
 use Rattle.laws.specs.When.{unless}
 use Rattle.asdu.specs.Sizes.{sizesRight, segmentLimit}
-use Rattle.asdu.specs.declared.error.FtError.{FtError}
-use Rattle.asdu.specs.declared.error.FtError.the-variants as E
+use Rattle.asdu.specs.declared.FtError.{FtError}
+use Rattle.asdu.specs.declared.FtError.the-variants as E
 use Rattle.ft.specs.Directions.{otherRole}
 use Rattle.ft.specs.Building.{addressed, headerOf}
 use Rattle.provide.specs.Sections.{sectionLength, sectionCount, sections}

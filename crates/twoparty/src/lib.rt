@@ -5,12 +5,12 @@ mod noise; // which sending is damaged, and how
 pub mod run; // frame after frame, up to a budget
 mod step; // one frame
 
-use asdu::error::FtError;
-use asdu::file::Nof;
-use asdu::sizes::AddressSizes;
+use asdu::AddressSizes;
+use asdu::FtError;
+use asdu::Nof;
 use exchange::Sender;
 use frame::Frame;
-use ft::direction::Role;
+use ft::Role;
 use provide::Provider;
 use provide::Reply;
 use receive::Receiver;

@@ -1,21 +1,21 @@
 // Document 01's steps of admission, each with an input on either side of its test.
 use crate::print;
-use asdu::file::Frq;
-use asdu::file::Lof;
-use asdu::file::Los;
-use asdu::file::Nof;
-use asdu::file::Nos;
-use asdu::file::Scq;
-use asdu::header::Cause;
-use asdu::header::Header;
-use asdu::header::UnknownField;
-use asdu::header::Unspecified;
-use asdu::sizes::AddressSizes;
+use asdu::AddressSizes;
+use asdu::Cause;
+use asdu::Frq;
+use asdu::Header;
+use asdu::Lof;
+use asdu::Los;
+use asdu::Nof;
+use asdu::Nos;
+use asdu::Scq;
+use asdu::UnknownField;
+use asdu::Unspecified;
 use frame::Frame;
-use ft::admit::Received;
-use ft::direction::Role;
-use ft::direction::Selection;
-use ft::procedure::FileTransferProcedure;
+use ft::FileTransferProcedure;
+use ft::Received;
+use ft::Role;
+use ft::Selection;
 
 fn station(role: Role, monitor: bool, control: bool, common: u8) -> FileTransferProcedure {
     FileTransferProcedure {

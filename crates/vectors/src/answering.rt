@@ -2,24 +2,24 @@
 // its name. A controlling station that uses the monitor direction has sent a frame for object 100,
 // file 7, section 1.
 use crate::print;
-use asdu::file::Afq;
-use asdu::file::Chs;
-use asdu::file::Frq;
-use asdu::file::Lof;
-use asdu::file::Lsq;
-use asdu::file::Nof;
-use asdu::file::Nos;
-use asdu::file::Scq;
-use asdu::file::Srq;
-use asdu::header::Cause;
-use asdu::header::Header;
-use asdu::header::UnknownField;
-use asdu::sizes::AddressSizes;
+use asdu::AddressSizes;
+use asdu::Afq;
+use asdu::Cause;
+use asdu::Chs;
+use asdu::Frq;
+use asdu::Header;
+use asdu::Lof;
+use asdu::Lsq;
+use asdu::Nof;
+use asdu::Nos;
+use asdu::Scq;
+use asdu::Srq;
+use asdu::UnknownField;
 use frame::Frame;
-use ft::admit::Received;
-use ft::direction::Role;
-use ft::direction::Selection;
-use ft::procedure::FileTransferProcedure;
+use ft::FileTransferProcedure;
+use ft::Received;
+use ft::Role;
+use ft::Selection;
 
 fn answer(name: &[u8], sent: Frame, frame: Frame) {
     let p = FileTransferProcedure {

@@ -1,21 +1,21 @@
 // Checksums, lengths that follow from the widths, directions and packed entries.
 use crate::print;
-use asdu::entry::DirectoryEntry;
-use asdu::entry::EntryResult;
-use asdu::entry::Packed;
-use asdu::file::Chs;
-use asdu::file::Lof;
-use asdu::file::Nof;
-use asdu::file::Sof;
-use asdu::header::Direction;
+use asdu::AddressSizes;
+use asdu::Chs;
+use asdu::Cp56Time2a;
+use asdu::Direction;
+use asdu::DirectoryEntry;
+use asdu::EntryResult;
+use asdu::Lof;
+use asdu::Nof;
+use asdu::Packed;
+use asdu::Sof;
 use asdu::sizes;
-use asdu::sizes::AddressSizes;
-use asdu::time::Cp56Time2a;
+use ft::ChecksumResult;
+use ft::Role;
+use ft::Selection;
 use ft::checksum;
-use ft::checksum::ChecksumResult;
 use ft::direction;
-use ft::direction::Role;
-use ft::direction::Selection;
 
 fn stated(name: &[u8], octets: &[u8], sum: u8) {
     match checksum::check_checksum(octets, Chs { value: sum }) {

@@ -1,17 +1,17 @@
 // The refusals of the makings and of the frame makers, in document 01's order.
 use crate::print;
-use asdu::file::Frq;
-use asdu::file::Lof;
-use asdu::file::Nof;
-use asdu::file::Nos;
-use asdu::file::Scq;
-use asdu::header::Cause;
-use asdu::sizes::AddressSizes;
-use asdu::sizes::SizesResult;
+use asdu::AddressSizes;
+use asdu::Cause;
+use asdu::Frq;
+use asdu::Lof;
+use asdu::Nof;
+use asdu::Nos;
+use asdu::Scq;
+use asdu::SizesResult;
 use frame::Frame;
-use ft::direction::Role;
-use ft::direction::Selection;
-use ft::procedure::FileTransferProcedure;
+use ft::FileTransferProcedure;
+use ft::Role;
+use ft::Selection;
 
 fn width(name: &[u8], cause: u8, common: u8, object: u8) {
     match AddressSizes::new(cause, common, object) {

@@ -1,9 +1,9 @@
 // Lines of output: a name, and what was answered.
-use asdu::error::FtError;
-use asdu::header::Discard;
-use ft::admit::Reaction;
-use ft::build::AsduResult;
-use ft::procedure::ProcedureResult;
+use asdu::Discard;
+use asdu::FtError;
+use ft::AsduResult;
+use ft::ProcedureResult;
+use ft::Reaction;
 use libc::STDOUT_FILENO;
 
 pub fn text(words: &[u8]) {

@@ -1,0 +1,16 @@
+use Rattle.laws.proofs.Decide.{decide}
+use Rattle.asdu.specs.Time.{timeInRange}
+use Rattle.asdu.proofs.Cp56Time2a.is_in_range.Statement.{statement}
+use Rattle.asdu.proofs.Cp56Time2a.is_in_range.Tie as tie
+
+pub is-in-range-spec : {M : Type 1} → statement M
+unfolding timeInRange
+is-in-range-spec =
+    tie.close
+    (tie.spec
+    (λ c. search decide)
+    (λ c. search decide)
+    (λ c. search decide)
+    (λ c. search decide)
+    (λ c. search decide)
+    (λ c. search decide))
