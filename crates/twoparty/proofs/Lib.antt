@@ -1,11 +1,7 @@
-pub mod Damage
 pub mod Reaches
 pub mod Left
 pub mod Machines
-pub mod Told
-pub mod Tuning
 pub mod Following
-pub mod Named
 pub mod Running
 pub mod Whole
 pub mod Longest

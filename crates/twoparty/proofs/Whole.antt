@@ -29,12 +29,13 @@ use Rattle.exchange.specs.Damaging.{scriptRadio}
 use Rattle.exchange.proofs.Budget as B
 use Rattle.exchange.proofs.Damaging.{script-sendings}
 use Rattle.exchange.proofs.Ordering.{in-order}
-use Rattle.twoparty.specs.Party.{stationOf, allHaveOctets, withProvider, partyMade, Ran, ranFrom}
+use Rattle.twoparty.specs.Party.{stationOf, withProvider, partyMade, Ran, ranFrom}
+use Rattle.radio.specs.Radio.{allHaveOctets}
 use Rattle.twoparty.specs.Run.{ownHeaders, exchangeOf, endingBy, ending, twoParty, scriptFrames}
 use Rattle.twoparty.specs.declared.Settings.{Settings}
 use Rattle.twoparty.specs.declared.RunResult.{RunResult}
 use Rattle.twoparty.specs.declared.RunResult.the-variants.{Whole, Spent}
-use Rattle.twoparty.proofs.Named.{nameable}
+use Rattle.radio.proofs.Named.{nameable}
 use Rattle.twoparty.proofs.Running.{Accepted, providing, receiving, provider-made, receiver-made, run-is}
 
 module _ (s : Settings) (file damage store : List ℕ) where

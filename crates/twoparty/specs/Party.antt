@@ -16,7 +16,6 @@ use Rattle.ft.specs.declared.Role.{Role}
 use Rattle.ft.specs.declared.Role.the-variants.{Controlling, Controlled}
 use Rattle.ft.specs.declared.Selection.{Selection}
 use Rattle.ft.specs.declared.FileTransferProcedure.{FileTransferProcedure}
-use Rattle.provide.specs.Sections.{sectionOctets}
 use Rattle.provide.specs.Record.{providerMade, fileAgrees}
 use Rattle.provide.specs.Replies.{replyFrame, replyPayload}
 use Rattle.provide.specs.Requests.{provide}
@@ -38,11 +37,11 @@ use Rattle.receive.specs.declared.ReceiverResult.{ReceiverResult}
 use Rattle.receive.specs.declared.ReceiverResult.the-variants as RM
 use Rattle.exchange.specs.Exchange.{isSending}
 use Rattle.exchange.specs.declared.Sender.the-variants as S
-use Rattle.exchange.specs.Damaging.{raised, namings}
+use Rattle.radio.specs.Radio.{allHaveOctets, firstSection, afterSending, arriving}
+use Rattle.radio.specs.declared.Radio.{Radio}
 use Rattle.twoparty.specs.declared.Settings.{Settings}
 use Rattle.twoparty.specs.declared.Queue.{Queue}
 use Rattle.twoparty.specs.declared.Queue.the-variants as Q
-use Rattle.twoparty.specs.declared.Radio.{Radio}
 use Rattle.twoparty.specs.declared.TwoParty.{TwoParty}
 use Rattle.twoparty.specs.declared.TwoPartyResult.{TwoPartyResult}
 use Rattle.twoparty.specs.declared.TwoPartyResult.the-variants as T
@@ -50,35 +49,6 @@ use Rattle.twoparty.specs.declared.Passing.{Passing}
 use Rattle.twoparty.specs.declared.Passing.the-variants as N
 use Rattle.twoparty.specs.declared.RunResult.{RunResult}
 use Rattle.twoparty.specs.declared.RunResult.the-variants.{Whole, Spent, Err}
-
--- ---- the radio
-
--- section `nos` of a file cut into sections of `size` octets has octets
-unfoldable pub hasOctets : ℕ → List ℕ → ℕ → Bool
-hasOctets size file nos = ltb 0 (length (sectionOctets size file nos))
-
--- each section that is named does: else 11
-abbrev pub allHaveOctets : ℕ → List ℕ → List ℕ → Bool
-allHaveOctets size file [] = true
-allHaveOctets size file (d ∷ ds) = hasOctets size file d and allHaveOctets size file ds
-
--- before the first sending
-abbrev pub firstSection : List ℕ → Radio
-firstSection damage = record { section = 1; left = namings 1 damage }
-
--- after a section's intact sending; there are at most 255 sections
-unfoldable pub nextSection : List ℕ → Radio → Radio
-nextSection damage r =
-    when (ltb (r .section) 255) (record { section = r .section + 1; left = namings (r .section + 1) damage })
-    (record { section = r .section; left = 0 })
-
--- after one more sending
-unfoldable pub afterSending : List ℕ → Radio → Radio
-afterSending damage r = when (ltb 0 (r .left)) (record { section = r .section; left = r .left - 1 }) (nextSection damage r)
-
--- a segment's payload as it arrives: the first octet of a damaged sending is raised
-unfoldable pub arriving : Bool → ℕ → List ℕ → List ℕ
-arriving damaged i payload = when (damaged and eqb i 0) (raised payload) payload
 
 -- ---- the making
 

@@ -1,16 +1,15 @@
 // The tests before any frame, and the Receiver's start.
 use crate::Queue;
-use crate::Radio;
 use crate::Settings;
 use crate::TwoParty;
 use crate::TwoPartyResult;
-use crate::noise;
 use asdu::FtError;
 use ft::FileTransferProcedure;
 use ft::Role;
 use ft::Selection;
 use provide::Provider;
 use provide::ProviderResult;
+use radio::Radio;
 use receive::Receiver;
 use receive::ReceiverAnswer;
 use receive::ReceiverResult;
@@ -113,7 +112,7 @@ impl TwoParty {
     {
         let role = settings.role;
         let nof = settings.nof;
-        if noise::all_have_octets(file, provider.section_len, damage) {
+        if radio::all_have_octets(file, provider.section_len, damage) {
             if file.len() <= store.len() {
                 let station = settings.station(role.other());
                 let made = Receiver::new(station, settings.ioa, nof);

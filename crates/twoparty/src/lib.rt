@@ -1,7 +1,7 @@
 // The two-party run (document 01, A transfer script): one Provider and one Receiver, and between them a
 // radio that raises octets where the damage list says so. File, damage and store are lent to each call.
 mod begin; // the tests before any frame, and the start
-mod noise; // which sending is damaged, and how
+mod noise; // what a damaged sending is hit at
 pub mod run; // frame after frame, up to a budget
 mod step; // one frame
 
@@ -13,6 +13,7 @@ use frame::Frame;
 use ft::Role;
 use provide::Provider;
 use provide::Reply;
+use radio::Radio;
 use receive::Receiver;
 
 // What a run is given beside file, damage and store.
@@ -36,12 +37,6 @@ pub enum Queue {
         next: usize,
         damaged: bool,
     },
-}
-
-// The sendings to come: so many damaged ones of this section, then an intact one, then the next section.
-pub struct Radio {
-    pub section: u8,
-    pub left: usize,
 }
 
 // A transfer under way.

@@ -2,7 +2,6 @@
 // and what that sends joins the queue.
 use crate::Passing;
 use crate::Queue;
-use crate::Radio;
 use crate::TwoParty;
 use crate::TwoPartyResult;
 use crate::noise;
@@ -18,6 +17,7 @@ use provide::FrameResult;
 use provide::ProviderAnswer;
 use provide::ProviderStep;
 use provide::Reply;
+use radio::Radio;
 use receive::Receiver;
 use receive::ReceiverStep;
 ghost use Prim.Native.Nat.{_≤_};
@@ -121,16 +121,14 @@ fn hand_over(
     receiver.on_asdu(store, header, UnknownField::Nothing, received, payload)
 }
 
-impl Radio {
-    // After the Provider's answer.
-    fn after_answer(self, damage: &[u8], answer: ProviderAnswer) -> Radio
-        ensures { λ r. ⌜ r ≡ afterAnswer (now (damage .entry)) self answer ⌝ }
-    {
-        if is_sending(answer) {
-            return self.after_sending(damage);
-        }
-        self
+// The sendings to come after the Provider's answer.
+fn after_answer(radio: Radio, damage: &[u8], answer: ProviderAnswer) -> Radio
+    ensures { λ r. ⌜ r ≡ afterAnswer (now (damage .entry)) radio answer ⌝ }
+{
+    if is_sending(answer) {
+        return radio.after_sending(damage);
     }
+    radio
 }
 
 impl TwoParty {
@@ -175,7 +173,7 @@ impl TwoParty {
         let receiver = self.receiver;
         let before = self.radio;
         let queue = replied(before, answer);
-        let radio = before.after_answer(damage, answer);
+        let radio = after_answer(before, damage, answer);
         TwoParty {
             provider,
             receiver,

@@ -1,6 +1,6 @@
 use denote.Ref.{now}
 use borrow.Author.Needs.{needs}
-use Rattle.twoparty.specs.Party.{arriving}
+use Rattle.radio.specs.Radio.{arriving}
 use Rattle.twoparty.proofs.Reaches.{payload-short}
 use Rattle.twoparty.proofs.TwoParty.deliver.Statement.{statement}
 use Rattle.twoparty.proofs.TwoParty.deliver.Tie as tie

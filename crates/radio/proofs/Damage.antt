@@ -14,7 +14,7 @@ use Rattle.laws.specs.When.{when}
 use Rattle.laws.proofs.Decide.{whens}
 use Rattle.provide.specs.Sections.{sectionOctets}
 use Rattle.exchange.specs.Damaging.{raised, namings}
-use Rattle.twoparty.specs.Party.{hasOctets, allHaveOctets}
+use Rattle.radio.specs.Radio.{hasOctets, allHaveOctets}
 
 pub at-most-one : (b : Bool) (r : ℕ) → r ≡ when b 1 0 → r ≤ 1
 unfolding when

@@ -1,9 +1,9 @@
 use borrow.Author.Needs.{needs}
 use borrow.Author.Tests.{lt-ltb, le-ltb}
 use Rattle.laws.proofs.Decide.{whens}
-use Rattle.twoparty.specs.Party.{nextSection}
-use Rattle.twoparty.proofs.Radio.next_section.Statement.{statement}
-use Rattle.twoparty.proofs.Radio.next_section.Tie as tie
+use Rattle.radio.specs.Radio.{nextSection}
+use Rattle.radio.proofs.Radio.next_section.Statement.{statement}
+use Rattle.radio.proofs.Radio.next_section.Tie as tie
 
 pub next-section-spec : {M : Type 1} → statement M
 unfolding nextSection

@@ -13,7 +13,7 @@ use Rattle.provide.specs.Replies.{Packet, bare, segmentPacket}
 use Rattle.provide.specs.declared.Provider.{Provider}
 use Rattle.exchange.specs.Exchange.{Side, byProvider, arrives, Passing, flown}
 use Rattle.exchange.specs.Damaging.{raised, hurt, unhurt}
-use Rattle.twoparty.specs.Party.{arriving}
+use Rattle.radio.specs.Radio.{arriving}
 
 -- the first frame's payload is raised where the sending is damaged
 abbrev pub told : Bool → List Packet → List Passing

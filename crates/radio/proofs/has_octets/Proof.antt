@@ -3,9 +3,9 @@ use mathlib.Core.Path.{sym}
 use native.Mathlib.Omega.{arith}
 use borrow.Author.Needs.{needs}
 use Rattle.provide.proofs.Cuts.{product-fits}
-use Rattle.twoparty.proofs.Damage.{none-named, none-of-none, begins-within}
-use Rattle.twoparty.proofs.noise.has_octets.Statement.{statement}
-use Rattle.twoparty.proofs.noise.has_octets.Tie as tie
+use Rattle.radio.proofs.Damage.{none-named, none-of-none, begins-within}
+use Rattle.radio.proofs.has_octets.Statement.{statement}
+use Rattle.radio.proofs.has_octets.Tie as tie
 
 pub has-octets-spec : {M : Type 1} → statement M
 has-octets-spec =

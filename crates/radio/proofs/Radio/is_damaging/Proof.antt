@@ -1,6 +1,6 @@
 use borrow.Author.Needs.{needs}
-use Rattle.twoparty.proofs.Radio.is_damaging.Statement.{statement}
-use Rattle.twoparty.proofs.Radio.is_damaging.Tie as tie
+use Rattle.radio.proofs.Radio.is_damaging.Statement.{statement}
+use Rattle.radio.proofs.Radio.is_damaging.Tie as tie
 
 pub is-damaging-spec : {M : Type 1} → statement M
 is-damaging-spec = tie.close (tie.spec (λ c. search needs))

@@ -5,10 +5,10 @@ use native.Mathlib.Omega.{arith}
 use lib.ListN.{length, drop, drop-of-length-le}
 use borrow.Author.Needs.{needs}
 use Rattle.laws.proofs.Decide.{whens, yes-by-not, nay-by-not}
-use Rattle.twoparty.specs.Party.{allHaveOctets}
-use Rattle.twoparty.proofs.Damage.{all-from}
-use Rattle.twoparty.proofs.noise.all_have_octets.Statement.{statement}
-use Rattle.twoparty.proofs.noise.all_have_octets.Tie as tie
+use Rattle.radio.specs.Radio.{allHaveOctets}
+use Rattle.radio.proofs.Damage.{all-from}
+use Rattle.radio.proofs.all_have_octets.Statement.{statement}
+use Rattle.radio.proofs.all_have_octets.Tie as tie
 
 abbrev Inv-loop : tie.InvT-loop
 Inv-loop file section-len damage i₀ i =

@@ -5,9 +5,9 @@ use native.Mathlib.Omega.{arith}
 use lib.ListN.{length, drop, drop-of-length-le}
 use borrow.Author.Needs.{needs}
 use Rattle.exchange.specs.Damaging.{namings}
-use Rattle.twoparty.proofs.Damage.{at-most-one, namings-from}
-use Rattle.twoparty.proofs.noise.namings.Statement.{statement}
-use Rattle.twoparty.proofs.noise.namings.Tie as tie
+use Rattle.radio.proofs.Damage.{at-most-one, namings-from}
+use Rattle.radio.proofs.namings.Statement.{statement}
+use Rattle.radio.proofs.namings.Tie as tie
 
 abbrev Inv-loop : tie.InvT-loop
 Inv-loop nos damage count₀ i₀ count i =

@@ -15,8 +15,8 @@ use Rattle.lists.specs.Parts.{parts}
 use Rattle.provide.specs.Sections.{sectionLength, sectionCount, sections, sectionOctets}
 use Rattle.provide.proofs.SectionLaws.{enough, section-from}
 use Rattle.exchange.specs.Damaging.{namings, Nameable}
-use Rattle.twoparty.specs.Party.{hasOctets, allHaveOctets}
-use Rattle.twoparty.proofs.Tuning.{Unnamed}
+use Rattle.radio.specs.Radio.{hasOctets, allHaveOctets}
+use Rattle.radio.proofs.Tuning.{Unnamed}
 
 module _ (file : List ℕ) where
   abbrev size : ℕ

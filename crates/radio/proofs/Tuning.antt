@@ -16,9 +16,9 @@ use Rattle.provide.specs.declared.Provider.{Provider}
 use Rattle.exchange.specs.Exchange.{Noise, nextSending, sendingsLeft, flown, Passing}
 use Rattle.exchange.specs.Transfer.{inOrder}
 use Rattle.exchange.specs.Damaging.{hurt, unhurt, namings, scriptRadio}
-use Rattle.twoparty.specs.Party.{firstSection, nextSection, afterSending}
-use Rattle.twoparty.specs.declared.Radio.{Radio}
-use Rattle.twoparty.proofs.Told.{told, flown-none, flown-unhurt, flown-hurt}
+use Rattle.radio.specs.Radio.{firstSection, nextSection, afterSending}
+use Rattle.radio.specs.declared.Radio.{Radio}
+use Rattle.radio.proofs.Told.{told, flown-none, flown-unhurt, flown-hurt}
 
 one-less : (n : ℕ) → suc n - 1 ≡ n
 one-less n = omega arith

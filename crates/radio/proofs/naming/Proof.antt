@@ -1,7 +1,7 @@
 use borrow.Author.Tests.{eq-eqb, ne-eqb}
 use Rattle.laws.proofs.Decide.{whens}
-use Rattle.twoparty.proofs.noise.naming.Statement.{statement}
-use Rattle.twoparty.proofs.noise.naming.Tie as tie
+use Rattle.radio.proofs.naming.Statement.{statement}
+use Rattle.radio.proofs.naming.Tie as tie
 
 pub naming-spec : {M : Type 1} → statement M
 naming-spec =

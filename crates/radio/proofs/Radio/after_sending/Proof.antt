@@ -1,9 +1,9 @@
 use borrow.Author.Needs.{needs}
 use borrow.Author.Tests.{ltb-true}
 use Rattle.laws.proofs.Decide.{whens, yes, nay}
-use Rattle.twoparty.specs.Party.{afterSending}
-use Rattle.twoparty.proofs.Radio.after_sending.Statement.{statement}
-use Rattle.twoparty.proofs.Radio.after_sending.Tie as tie
+use Rattle.radio.specs.Radio.{afterSending}
+use Rattle.radio.proofs.Radio.after_sending.Statement.{statement}
+use Rattle.radio.proofs.Radio.after_sending.Tie as tie
 
 pub after-sending-spec : {M : Type 1} → statement M
 unfolding afterSending

@@ -1,0 +1,4 @@
+pub mod Damage
+pub mod Told
+pub mod Tuning
+pub mod Named
