@@ -111,14 +111,11 @@ fn hand_over(
     ensures { λ r. ⌜ (r ≡ receive receiver (now (store .entry)) header U.Nothing (D.Frame frame) (when hit (raised (now (payload .entry))) (now (payload .entry))) .step)
         × (now (store .exit) ≡ receive receiver (now (store .entry)) header U.Nothing (D.Frame frame) (when hit (raised (now (payload .entry))) (now (payload .entry))) .store) ⌝ }
 {
+    let n = payload.len();
+    let mut copy = [0u8; 240];
+    noise::arrive(payload, hit, &mut copy);
     let received = Received::Frame(frame);
-    if hit {
-        let n = payload.len();
-        let mut copy = [0u8; 240];
-        noise::raise(payload, &mut copy);
-        return receiver.on_asdu(store, header, UnknownField::Nothing, received, &copy[0..n]);
-    }
-    receiver.on_asdu(store, header, UnknownField::Nothing, received, payload)
+    receiver.on_asdu(store, header, UnknownField::Nothing, received, &copy[0..n])
 }
 
 // The sendings to come after the Provider's answer.
