@@ -11,7 +11,7 @@ use Rattle.script.specs.Answers.{answerOf, fileAfter, damageAfter}
 use Rattle.script.specs.declared.Outline.{Outline}
 use Rattle.script.specs.declared.ScriptResult.{ScriptResult}
 use Rattle.script.specs.declared.ScriptResult.the-variants.{Ok, Err}
-use Rattle.twoparty.specs.Run.{refused}
+use Rattle.run.specs.Run.{refused}
 use Rattle.console.specs.Program.{settingsWith, transferred, played}
 
 abbrev outlineIn : Outline → ScriptResult → Outline

@@ -7,8 +7,8 @@ use Rattle.asdu.specs.declared.FtError.the-variants.{ScriptMisshapen}
 use Rattle.ft.specs.Procedure.{conventional}
 use Rattle.ft.specs.declared.Role.the-variants.{Controlled}
 use Rattle.script.specs.Script.{Script}
-use Rattle.twoparty.specs.Party.{Ran}
-use Rattle.twoparty.specs.Run.{twoParty, refused}
+use Rattle.run.specs.Loop.{Ran}
+use Rattle.run.specs.Run.{twoParty, refused}
 use Rattle.twoparty.specs.declared.Settings.{Settings}
 
 abbrev pub settingsWith : ℕ → Nof → Settings

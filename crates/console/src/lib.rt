@@ -1,21 +1,20 @@
 // A transfer at the console: what document 01 (A transfer script) prints of a script goes to standard
-// output. What is read, run and printed is proved in `script` and `twoparty`; here nothing is decided.
+// output. What is read, run and printed is proved in `script`, `twoparty` and `run`; here nothing is decided.
 use asdu::AddressSizes;
 use asdu::FtError;
 use exchange::Sender;
 use frame::Frame;
 use ft::Role;
 use libc::STDOUT_FILENO;
+use run::RunResult;
 use script::Outline;
 use script::ScriptResult;
 use script::line;
 use script::read;
 use twoparty::Passing;
-use twoparty::RunResult;
 use twoparty::Settings;
 use twoparty::TwoParty;
 use twoparty::TwoPartyResult;
-use twoparty::run;
 ghost use mathlib.Core.Path.{_≡_};
 ghost use lib.ListN.{take};
 ghost use Rattle.script.specs.Reader.{scriptOf};

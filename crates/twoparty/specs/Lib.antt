@@ -1,2 +1,1 @@
 pub mod Party
-pub mod Run

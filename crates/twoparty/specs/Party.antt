@@ -47,8 +47,6 @@ use Rattle.twoparty.specs.declared.TwoPartyResult.{TwoPartyResult}
 use Rattle.twoparty.specs.declared.TwoPartyResult.the-variants as T
 use Rattle.twoparty.specs.declared.Passing.{Passing}
 use Rattle.twoparty.specs.declared.Passing.the-variants as N
-use Rattle.twoparty.specs.declared.RunResult.{RunResult}
-use Rattle.twoparty.specs.declared.RunResult.the-variants.{Whole, Spent, Err}
 
 -- ---- the making
 
@@ -180,32 +178,3 @@ unfoldable pub stepped : TwoParty → List ℕ → List ℕ → List ℕ → Ste
 stepped t file damage store =
     unless (fileAgrees (t .provider) file and storeAgrees (t .receiver) store) (record { result = T.Err E.RecordMismatch; store = store })
     (went (advanced t file damage store))
-
--- ---- frame after frame
-
-abbrev pub isNothing : Passing → Bool
-isNothing N.Nothing = true
-isNothing (N.Frame sender f) = false
-isNothing (N.Err e) = true
-
--- no frame is left
-unfoldable pub isOver : TwoParty → List ℕ → Bool
-isOver t file = isNothing (nextFrame t file)
-
-pub record Ran : Type 0 where
-  pub result : RunResult
-  pub store : List ℕ
-
-abbrev pub whole : TwoParty → ℕ → RunResult
-whole t frames = Whole (t .receiver .kept) frames
-
--- with so much of the budget left, after so many frames
-abbrev pub ranOn : ℕ → ℕ → TwoParty → List ℕ → List ℕ → List ℕ → Ran
-ranOn zero frames t file damage store = record { result = when (isOver t file) (whole t frames) (Spent frames); store = store }
-ranOn (suc budget) frames t file damage store =
-    when (isOver t file) (record { result = whole t frames; store = store })
-    (ranOn budget (frames + 1) (advanced t file damage store .party) file damage (advanced t file damage store .store))
-
-abbrev pub ranFrom : ℕ → List ℕ → List ℕ → List ℕ → TwoPartyResult → Ran
-ranFrom budget file damage store (T.Ok t) = ranOn budget 0 t file damage store
-ranFrom budget file damage store (T.Err e) = record { result = Err e; store = store }

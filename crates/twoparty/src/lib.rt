@@ -1,8 +1,7 @@
-// The two-party run (document 01, A transfer script): one Provider and one Receiver, and between them a
+// A transfer between two parties, frame by frame (document 01, A transfer script): one Provider and one Receiver, and between them a
 // radio that raises octets where the damage list says so. File, damage and store are lent to each call.
 mod begin; // the tests before any frame, and the start
 mod noise; // what a damaged sending is hit at
-pub mod run; // frame after frame, up to a budget
 mod step; // one frame
 
 use asdu::AddressSizes;
@@ -56,12 +55,5 @@ pub enum TwoPartyResult {
 pub enum Passing {
     Nothing,
     Frame { sender: Sender, frame: Frame },
-    Err(FtError),
-}
-
-// How a run ended, after so many frames: whole, with so many octets accepted, or with its budget spent.
-pub enum RunResult {
-    Whole { length: usize, frames: usize },
-    Spent { frames: usize },
     Err(FtError),
 }

@@ -261,7 +261,7 @@ impl TwoParty {
     }
 
     // The queue's first frame passes; an empty queue stays.
-    pub(crate) fn advance(self, file: &[u8], damage: &[u8], store: &mut [u8]) -> TwoParty
+    pub fn advance(self, file: &[u8], damage: &[u8], store: &mut [u8]) -> TwoParty
         ensures { λ r. ⌜ (r ≡ advanced self (now (file .entry)) (now (damage .entry)) (now (store .entry)) .party)
             × (now (store .exit) ≡ advanced self (now (file .entry)) (now (damage .entry)) (now (store .entry)) .store) ⌝ }
     {

@@ -1,7 +1,7 @@
 use mathlib.Core.Path.{sym, ap, _∙_}
 use borrow.Author.Needs.{needs}
 use Rattle.script.specs.Reader.{scriptOf}
-use Rattle.twoparty.specs.Party.{Ran}
+use Rattle.run.specs.Loop.{Ran}
 use Rattle.console.proofs.Playing.{script-played, text-refused}
 use Rattle.console.proofs.play.Statement.{statement}
 use Rattle.console.proofs.play.Tie as tie

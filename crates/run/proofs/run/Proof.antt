@@ -1,7 +1,7 @@
 use borrow.Author.Needs.{needs}
-use Rattle.twoparty.proofs.Whole.{party-run}
-use Rattle.twoparty.proofs.run.run.Statement.{statement}
-use Rattle.twoparty.proofs.run.run.Tie as tie
+use Rattle.run.proofs.Endings.{party-run}
+use Rattle.run.proofs.run.Statement.{statement}
+use Rattle.run.proofs.run.Tie as tie
 
 pub run-spec : {M : Type 1} → statement M
 run-spec =

@@ -15,11 +15,12 @@ use Rattle.receive.specs.Record.{freshReceiver}
 use Rattle.exchange.specs.Exchange.{Passing, Exchange, Headers, run, begun}
 use Rattle.exchange.specs.Transfer.{Sendings, inOrder, sendingFrames, damagedSendings}
 use Rattle.exchange.specs.Damaging.{scriptRadio}
-use Rattle.twoparty.specs.Party.{stationOf, Ran}
+use Rattle.twoparty.specs.Party.{stationOf}
+use Rattle.run.specs.Loop.{Ran}
 use Rattle.radio.specs.Radio.{allHaveOctets}
 use Rattle.twoparty.specs.declared.Settings.{Settings}
-use Rattle.twoparty.specs.declared.RunResult.{RunResult}
-use Rattle.twoparty.specs.declared.RunResult.the-variants.{Whole, Spent, Err}
+use Rattle.run.specs.declared.RunResult.{RunResult}
+use Rattle.run.specs.declared.RunResult.the-variants.{Whole, Spent, Err}
 
 -- both stations have this common address and no originator
 abbrev pub ownHeaders : ℕ → Headers

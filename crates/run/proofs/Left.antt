@@ -5,9 +5,10 @@ use mathlib.Core.Bool.{true, false}
 use mathlib.Core.List.{List}
 use native.Mathlib.Omega.{arith}
 use Rattle.laws.proofs.Decide.{whens}
 use Rattle.twoparty.specs.declared.TwoParty.{TwoParty}
-use Rattle.twoparty.specs.declared.RunResult.the-variants.{Spent}
-use Rattle.twoparty.specs.Party.{advanced, isOver, whole, ranOn}
+use Rattle.run.specs.declared.RunResult.the-variants.{Spent}
+use Rattle.twoparty.specs.Party.{advanced}
+use Rattle.run.specs.Loop.{isOver, whole, ranOn}
 
 module _ (frames : ℕ) (t : TwoParty) (file damage store : List ℕ) where
   pub ran-over : (left : ℕ) → isOver t file ≡ true → ranOn left frames t file damage store ≡ record { result = whole t frames; store = store }

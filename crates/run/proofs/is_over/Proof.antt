@@ -1,7 +1,7 @@
 use borrow.Author.Needs.{needs}
-use Rattle.twoparty.specs.Party.{isOver}
-use Rattle.twoparty.proofs.TwoParty.is_over.Statement.{statement}
-use Rattle.twoparty.proofs.TwoParty.is_over.Tie as tie
+use Rattle.run.specs.Loop.{isOver}
+use Rattle.run.proofs.is_over.Statement.{statement}
+use Rattle.run.proofs.is_over.Tie as tie
 
 pub is-over-spec : {M : Type 1} → statement M
 unfolding isOver

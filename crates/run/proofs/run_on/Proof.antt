@@ -6,10 +6,10 @@ use native.Mathlib.Omega.{arith}
 use lib.ListN.{length}
 use borrow.Author.Needs.{needs}
 use Rattle.laws.proofs.Decide.{yes, nay}
-use Rattle.twoparty.specs.Party.{ranOn}
-use Rattle.twoparty.proofs.Left.{ran-over, ran-next, ran-spent}
-use Rattle.twoparty.proofs.TwoParty.run_on.Statement.{statement}
-use Rattle.twoparty.proofs.TwoParty.run_on.Tie as tie
+use Rattle.run.specs.Loop.{ranOn}
+use Rattle.run.proofs.Left.{ran-over, ran-next, ran-spent}
+use Rattle.run.proofs.run_on.Statement.{statement}
+use Rattle.run.proofs.run_on.Tie as tie
 
 abbrev Inv-loop : tie.InvT-loop
 Inv-loop file damage store₀ budget party₀ frames₀ store party frames =

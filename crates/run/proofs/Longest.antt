@@ -14,8 +14,8 @@ use Rattle.provide.specs.Sections.{sectionLength, sectionCount, sections}
 use Rattle.exchange.specs.Transfer.{Sendings, sendingFrames, damagedSendings}
 use Rattle.exchange.specs.Damaging.{hurt, namings, scriptRadio}
 use Rattle.exchange.proofs.Script.{limit-is}
-use Rattle.twoparty.specs.Run.{scriptFrames}
+use Rattle.run.specs.Run.{scriptFrames}
 use Rattle.twoparty.specs.declared.Settings.{Settings}
 
 -- ---- no more sendings are damaged than the list has entries
 

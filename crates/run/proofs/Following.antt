@@ -37,14 +37,15 @@ use Rattle.receive.specs.declared.ReceiverStep.{ReceiverStep}
 use Rattle.receive.specs.declared.ToSend.the-variants as T
 use Rattle.exchange.specs.Exchange.{Side, byReceiver, Passing, untouched, providerSends, packetsOf, receiverSends, isSending, Noise, sent, sendingsLeft, Exchange, provided, taken, stepOn, step, begun}
 use Rattle.exchange.proofs.Radio.{payloads-behind}
-use Rattle.twoparty.specs.Party.{startedParty, headerBy, asked, replied, afterProvider, afterReceiver, nextFrame, advanced, isOver}
+use Rattle.twoparty.specs.Party.{startedParty, headerBy, asked, replied, afterProvider, afterReceiver, nextFrame, advanced}
+use Rattle.run.specs.Loop.{isOver}
 use Rattle.radio.specs.Radio.{afterSending, arriving}
-use Rattle.twoparty.specs.Run.{ownHeaders}
+use Rattle.run.specs.Run.{ownHeaders}
 use Rattle.twoparty.specs.declared.Queue.{Queue}
 use Rattle.twoparty.specs.declared.Queue.the-variants as Q
 use Rattle.radio.specs.declared.Radio.{Radio}
 use Rattle.twoparty.specs.declared.TwoParty.{TwoParty}
-use Rattle.twoparty.proofs.Machines.{station-same, agreement-same, receive-stays, segment-silent}
+use Rattle.run.proofs.Machines.{station-same, agreement-same, receive-stays, segment-silent}
 use Rattle.radio.proofs.Told.{told, bare-told, flown-none, passingAt, told-at, told-past}
 use Rattle.radio.proofs.Tuning.{Unnamed, Tuned, tuned-next, tuned-sent}
 

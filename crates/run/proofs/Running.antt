@@ -32,13 +32,14 @@ use Rattle.exchange.specs.Exchange.{Passing, Noise, Exchange, run, begun}
 use Rattle.exchange.specs.Transfer.{inOrder}
 use Rattle.exchange.specs.Damaging.{scriptRadio}
 use Rattle.exchange.proofs.Budget.{stays}
-use Rattle.twoparty.specs.Party.{stationOf, startedParty, advanced, Ran, isOver, whole, ranOn}
+use Rattle.twoparty.specs.Party.{stationOf, startedParty, advanced}
+use Rattle.run.specs.Loop.{Ran, isOver, whole, ranOn}
 use Rattle.radio.specs.Radio.{firstSection, allHaveOctets}
-use Rattle.twoparty.specs.Run.{ownHeaders, exchangeOf, ending}
+use Rattle.run.specs.Run.{ownHeaders, exchangeOf, ending}
 use Rattle.twoparty.specs.declared.Settings.{Settings}
 use Rattle.twoparty.specs.declared.TwoParty.{TwoParty}
 use Rattle.radio.proofs.Tuning.{Unnamed, Tuned, tuned-first}
-use Rattle.twoparty.proofs.Following.{standsFor, Fits, Next, Sight, over, going, sight, start-stands}
+use Rattle.run.proofs.Following.{standsFor, Fits, Next, Sight, over, going, sight, start-stands}
 use Rattle.radio.proofs.Named.{unnamed}
 
 module _ (file damage : List ℕ) (ca count : ℕ) (few : count ≤ 255) (none : Unnamed damage count) where

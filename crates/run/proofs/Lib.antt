@@ -1,0 +1,6 @@
+pub mod Machines
+pub mod Left
+pub mod Following
+pub mod Running
+pub mod Endings
+pub mod Longest

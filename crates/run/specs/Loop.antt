@@ -1,0 +1,40 @@
+-- The run as it goes: frame after frame of a transfer's record, until none is left or the budget is spent.
+use Prim.Native.Nat.{ℕ, zero, suc, _+_}
+use mathlib.Core.Bool.{Bool, true, false}
+use mathlib.Core.List.{List}
+use Rattle.laws.specs.When.{when}
+use Rattle.twoparty.specs.Party.{nextFrame, advanced}
+use Rattle.twoparty.specs.declared.TwoParty.{TwoParty}
+use Rattle.twoparty.specs.declared.TwoPartyResult.{TwoPartyResult}
+use Rattle.twoparty.specs.declared.TwoPartyResult.the-variants as T
+use Rattle.twoparty.specs.declared.Passing.{Passing}
+use Rattle.twoparty.specs.declared.Passing.the-variants as N
+use Rattle.run.specs.declared.RunResult.{RunResult}
+use Rattle.run.specs.declared.RunResult.the-variants.{Whole, Spent, Err}
+
+abbrev pub isNothing : Passing → Bool
+isNothing N.Nothing = true
+isNothing (N.Frame sender f) = false
+isNothing (N.Err e) = true
+
+-- no frame is left
+unfoldable pub isOver : TwoParty → List ℕ → Bool
+isOver t file = isNothing (nextFrame t file)
+
+pub record Ran : Type 0 where
+  pub result : RunResult
+  pub store : List ℕ
+
+abbrev pub whole : TwoParty → ℕ → RunResult
+whole t frames = Whole (t .receiver .kept) frames
+
+-- with so much of the budget left, after so many frames
+abbrev pub ranOn : ℕ → ℕ → TwoParty → List ℕ → List ℕ → List ℕ → Ran
+ranOn zero frames t file damage store = record { result = when (isOver t file) (whole t frames) (Spent frames); store = store }
+ranOn (suc budget) frames t file damage store =
+    when (isOver t file) (record { result = whole t frames; store = store })
+    (ranOn budget (frames + 1) (advanced t file damage store .party) file damage (advanced t file damage store .store))
+
+abbrev pub ranFrom : ℕ → List ℕ → List ℕ → List ℕ → TwoPartyResult → Ran
+ranFrom budget file damage store (T.Ok t) = ranOn budget 0 t file damage store
+ranFrom budget file damage store (T.Err e) = record { result = Err e; store = store }
