@@ -1,6 +1,6 @@
 -- What the Receiver does, told of a store as what is accepted, what is under way and the rest: the facts that the exchange cites.
 use Prim.Native.Nat.{ℕ, _+_, _≤_, _<_}
-use mathlib.Core.Path.{_≡_, sym, _∙_}
+use mathlib.Core.Path.{_≡_, refl, sym, _∙_}
 use mathlib.Core.Logic.{_≢_}
 use mathlib.Core.Bool.{true, false}
 use mathlib.Core.List.{List, _++_}
@@ -21,9 +21,10 @@ use Rattle.ft.specs.Checksum.{checksum}
 use Rattle.ft.specs.Admission.{onAnswer}
 use Rattle.ft.specs.declared.Received.the-variants as D
 use Rattle.ft.specs.declared.Reaction.the-variants as A
-use Rattle.receive.specs.Record.{storeAgrees, holding, awaited, stepped}
-use Rattle.receive.specs.Answers.{asks, closing, leaving, onSectionClose, onFileClose, onSegment, onAnswered, receive}
+use Rattle.receive.specs.Record.{storeAgrees, holding, acknowledge, awaited, stepped}
+use Rattle.receive.specs.Answers.{asks, closing, leaving, onSectionClose, onFileClose, onSegment, onAnswered, receive, toSend}
 use Rattle.receive.specs.declared.Sent.the-variants.{Acknowledgement}
+use Rattle.receive.specs.declared.ToSend.the-variants as T
 use Rattle.receive.specs.declared.Receiver.{Receiver}
 use Rattle.receive.specs.declared.ReceiverAnswer.the-variants.{Running, Complete, FileChecksum, Err}
 use Rattle.receive.proofs.StoreLaws.{written-after, staged-part, kept-part}
@@ -34,6 +35,16 @@ pub answer-heard : (r : Receiver) (store : List ℕ) (h : Header) (unknown : Unk
     → receive r store h unknown (D.Frame f) beside ≡ onAnswered r store beside f
 unfolding receive when
 answer-heard r store h unknown f beside agrees goes admitted = simp (agrees, goes, admitted)
+
+-- a whole file is acknowledged, and so is one whose sum differs
+pub completion-sends : (r : Receiver) (nos : Nos) (n : ℕ) → toSend (stepped (closing r (Acknowledgement 1 nos)) (Complete n)) ≡ T.Frame (acknowledge r 1 nos)
+unfolding toSend awaited when
+completion-sends r nos n = refl
+
+pub rejection-sends : (r : Receiver) (nos : Nos) (expected got : Chs)
+    → toSend (stepped (closing r (Acknowledgement 2 nos)) (FileChecksum expected got)) ≡ T.Frame (acknowledge r 2 nos)
+unfolding toSend awaited when
+rejection-sends r nos expected got = refl
 
 module _ (r : Receiver) (acc sec rest : List ℕ) (kept : r .kept ≡ length acc) (staged : r .staged ≡ length sec) where
   abbrev store : List ℕ
