@@ -17,7 +17,7 @@ impl FtError {
             FtError::EmptySegment => 5,
             FtError::SegmentTooLong => 6,
             FtError::CallDirectoryAction => 7,
-            FtError::ChecksumMismatch { .. } => 8,
+            FtError::ChecksumMismatch => 8,
             FtError::IndexOutOfRange => 9,
             FtError::Undecodable => 10,
             FtError::ScriptMisshapen => 11,

@@ -157,7 +157,7 @@ pub enum FtError {
     EmptySegment,
     SegmentTooLong,
     CallDirectoryAction,
-    ChecksumMismatch { expected: Chs, got: Chs },
+    ChecksumMismatch,
     IndexOutOfRange,
     Undecodable,
     ScriptMisshapen,

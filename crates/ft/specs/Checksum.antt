@@ -18,4 +18,4 @@ checksum octets = octetSum octets % 256
 -- a stated sum that differs from the octets' is 8, with both
 unfoldable pub checksumChecked : List ℕ → Chs → ChecksumResult
 checksumChecked octets stated =
-    when (eqb (checksum octets) (stated .value)) Ok (Err (ChecksumMismatch (record { value = checksum octets }) stated))
+    when (eqb (checksum octets) (stated .value)) Ok (Err ChecksumMismatch (record { value = checksum octets }) stated)

@@ -26,8 +26,9 @@ pub fn check_checksum(octets: &[u8], stated: Chs) -> ChecksumResult
     if expected.value == stated.value {
         return ChecksumResult::Ok;
     }
-    ChecksumResult::Err(FtError::ChecksumMismatch {
+    ChecksumResult::Err {
+        error: FtError::ChecksumMismatch,
         expected,
         got: stated,
-    })
+    }
 }

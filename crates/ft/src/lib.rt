@@ -9,6 +9,7 @@ pub mod procedure; // a station's settings
 
 use asdu::AddressSizes;
 use asdu::Cause;
+use asdu::Chs;
 use asdu::Discard;
 use asdu::FtError;
 use asdu::Header;
@@ -77,8 +78,12 @@ pub enum AsduResult {
     Err(FtError),
 }
 
-// What comparing a stated sum with the octets' answers.
+// What comparing a stated sum with the octets' answers: 8 comes with both.
 pub enum ChecksumResult {
     Ok,
-    Err(FtError),
+    Err {
+        error: FtError,
+        expected: Chs,
+        got: Chs,
+    },
 }
