@@ -62,7 +62,7 @@ fn new_sizes(sizes: AddressSizes) {
         sizes.information_object_address_octets,
     ) {
         SizesResult::Ok(_) => write::word(write::MADE),
-        SizesResult::Err(error) => show::refused(error),
+        SizesResult::Err(error) => write::refused(error),
     }
 }
 
@@ -91,7 +91,7 @@ fn check_sum(args: &Numbers, octets: &[u8]) {
 fn packed(answer: Packed, octets: &[u8]) {
     match answer {
         Packed::Ok => write::word(write::PACKED),
-        Packed::Err(error) => show::refused(error),
+        Packed::Err(error) => write::refused(error),
     }
     write::next_octets(octets);
 }
@@ -113,7 +113,7 @@ fn pack_into(args: &Numbers) {
 fn unpack(octets: &[u8]) {
     match DirectoryEntry::unpack(octets) {
         EntryResult::Ok(entry) => show::entry(entry),
-        EntryResult::Err(error) => show::refused(error),
+        EntryResult::Err(error) => write::refused(error),
     }
 }
 

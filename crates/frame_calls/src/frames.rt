@@ -53,7 +53,7 @@ fn made(asdu: Asdu) {
 pub fn asdu(result: AsduResult) {
     match result {
         AsduResult::Ok(asdu) => made(asdu),
-        AsduResult::Err(error) => show::refused(error),
+        AsduResult::Err(error) => write::refused(error),
     }
 }
 

@@ -39,22 +39,22 @@ fn answered(answer: ProviderAnswer) {
         ProviderAnswer::Complete => write::word(write::COMPLETE),
         ProviderAnswer::Deactivated { scq } => ended(write::DEACTIVATED, scq.action, scq.error),
         ProviderAnswer::FileRejected { afq } => ended(write::FILE_REJECTED, afq.action, afq.error),
-        ProviderAnswer::Refused { cause, mirror } => show::sent_back(cause, mirror),
-        ProviderAnswer::Err(error) => show::refused(error),
+        ProviderAnswer::Refused { cause, mirror } => write::sent_back(cause, mirror),
+        ProviderAnswer::Err(error) => write::refused(error),
     }
 }
 
 fn frame(result: FrameResult) {
     match result {
         FrameResult::Ok(frame) => show::frame(frame),
-        FrameResult::Err(error) => show::refused(error),
+        FrameResult::Err(error) => write::refused(error),
     }
 }
 
 fn count(result: CountResult) {
     match result {
         CountResult::Ok(n) => write::one(n as u64),
-        CountResult::Err(error) => show::refused(error),
+        CountResult::Err(error) => write::refused(error),
     }
 }
 
@@ -115,7 +115,7 @@ fn made(regs: &mut Numbers, result: ProviderResult) {
             kept::keep_provider(regs, PROVIDER, provider);
             write::word(write::MADE);
         }
-        ProviderResult::Err(error) => show::refused(error),
+        ProviderResult::Err(error) => write::refused(error),
     }
 }
 

@@ -72,8 +72,8 @@ fn answered(answer: ReceiverAnswer) {
         ReceiverAnswer::UnknownLsq(lsq) => {
             write::answer(write::UNKNOWN_LSQ, lsq.value as u64, 0, 0)
         }
-        ReceiverAnswer::Refused { cause, mirror } => show::sent_back(cause, mirror),
-        ReceiverAnswer::Err(error) => show::refused(error),
+        ReceiverAnswer::Refused { cause, mirror } => write::sent_back(cause, mirror),
+        ReceiverAnswer::Err(error) => write::refused(error),
     }
 }
 
@@ -129,7 +129,7 @@ fn made(regs: &mut Numbers, result: ReceiverResult) {
             kept::keep_receiver(regs, RECEIVER, receiver);
             write::word(write::MADE);
         }
-        ReceiverResult::Err(error) => show::refused(error),
+        ReceiverResult::Err(error) => write::refused(error),
     }
 }
 

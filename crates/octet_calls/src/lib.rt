@@ -3,7 +3,6 @@ use ft::checksum;
 use script::Outline;
 use script::ScriptResult;
 use station_calls::kept;
-use values::show;
 use words::Numbers;
 use words::Octets;
 use words::at;
@@ -149,7 +148,7 @@ fn read_script(script: &[u8], regs: &mut Numbers, file: &mut Octets, damage: &mu
     let mut sections = [0u8; 255];
     match script::read::read(script, &mut octets, &mut sections) {
         ScriptResult::Ok(outline) => found(outline, &octets, &sections, regs, file, damage),
-        ScriptResult::Err(error) => show::refused(error),
+        ScriptResult::Err(error) => write::refused(error),
     }
 }
 

@@ -138,7 +138,7 @@ fn ending(result: RunResult) {
             write::answer(write::WHOLE, length as u64, frames as u64, 0)
         }
         RunResult::Spent { frames } => write::answer(write::SPENT, frames as u64, 0, 0),
-        RunResult::Err(error) => show::refused(error),
+        RunResult::Err(error) => write::refused(error),
     }
 }
 
@@ -167,7 +167,7 @@ fn keep_made(regs: &mut Numbers, which: u8, result: TwoPartyResult) {
             keep_party(regs, party);
             write::word(which);
         }
-        TwoPartyResult::Err(error) => show::refused(error),
+        TwoPartyResult::Err(error) => write::refused(error),
     }
 }
 
@@ -197,7 +197,7 @@ fn passing(passing: Passing) {
             side(sender);
             show::frame(frame);
         }
-        Passing::Err(error) => show::refused(error),
+        Passing::Err(error) => write::refused(error),
     }
 }
 

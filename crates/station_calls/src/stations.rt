@@ -13,7 +13,6 @@ use ft::Selection;
 use ft::direction;
 use ft::procedure;
 use values::make;
-use values::show;
 use words::Numbers;
 use words::Octets;
 use words::at;
@@ -40,10 +39,10 @@ fn reaction(reaction: Reaction) {
     match reaction {
         Reaction::Requested => write::word(write::REQUESTED),
         Reaction::Answered => write::word(write::ANSWERED),
-        Reaction::Refused { cause, mirror } => show::sent_back(cause, mirror),
+        Reaction::Refused { cause, mirror } => write::sent_back(cause, mirror),
         Reaction::Discard(why) => discard(why),
         Reaction::Other => write::word(write::OTHER),
-        Reaction::Err(error) => show::refused(error),
+        Reaction::Err(error) => write::refused(error),
     }
 }
 
@@ -175,7 +174,7 @@ fn made(regs: &mut Numbers, result: ProcedureResult) {
             kept::keep_station(regs, STATION, station);
             write::word(write::MADE);
         }
-        ProcedureResult::Err(error) => show::refused(error),
+        ProcedureResult::Err(error) => write::refused(error),
     }
 }
 

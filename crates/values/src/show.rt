@@ -3,7 +3,6 @@ use asdu::Cause;
 use asdu::Cp56Time2a;
 use asdu::DirectoryEntry;
 use asdu::Frq;
-use asdu::FtError;
 use asdu::Header;
 use asdu::Lof;
 use asdu::Nof;
@@ -13,31 +12,11 @@ use asdu::Srq;
 use frame::Frame;
 use words::keep;
 use words::of_flag;
-use words::write::REFUSED;
-use words::write::SENT_BACK;
-use words::write::SENT_BACK_MIRROR;
-use words::write::answer;
 use words::write::choice;
 use words::write::next;
 use words::write::next_each;
 use words::write::number;
 use words::write::text;
-
-// A refusal by its number.
-pub fn refused(error: FtError) {
-    answer(REFUSED, error.number() as u64, 0, 0);
-}
-
-// A frame or a request was sent back: by this station where it has a mirror to send.
-pub fn sent_back(cause: Cause, mirror: bool) {
-    if mirror {
-        answer(SENT_BACK_MIRROR, cause.value as u64, 0, 0);
-    } else {
-        answer(SENT_BACK, cause.value as u64, 0, 0);
-    }
-}
-
-// ---- The library's values
 
 // TYPE CAUSE NEGATIVE ORIGINATOR CA.
 pub fn header(header: Header) {

@@ -7,6 +7,8 @@ use crate::of_flag;
 use crate::places;
 use crate::text;
 use crate::to_u8;
+use asdu::Cause;
+use asdu::FtError;
 use libc::STDOUT_FILENO;
 
 // ---- Words, numbers and octets
@@ -264,4 +266,18 @@ pub fn yes_or_no(answered: bool) {
 // A number as an answer.
 pub fn one(n: u64) {
     answer(ONE, n, 0, 0);
+}
+
+// A refusal by its number.
+pub fn refused(error: FtError) {
+    answer(REFUSED, error.number() as u64, 0, 0);
+}
+
+// A frame or a request was sent back: by this station where it has a mirror to send.
+pub fn sent_back(cause: Cause, mirror: bool) {
+    if mirror {
+        answer(SENT_BACK_MIRROR, cause.value as u64, 0, 0);
+    } else {
+        answer(SENT_BACK, cause.value as u64, 0, 0);
+    }
 }
