@@ -19,7 +19,8 @@ use Rattle.ft.specs.declared.Role.the-variants.{Controlling, Controlled}
 use Rattle.provide.specs.Sections.{sectionLength, sectionCount, sections, sectionOctets, segments}
 use Rattle.provide.specs.Record.{freshProvider, providerMade, fileAgrees}
 use Rattle.provide.specs.Requests.{onSc, after, onAck, isOurs, onRequest, provide}
-use Rattle.receive.specs.Record.{freshReceiver, receiverMade, storeAgrees, written, awaited, started}
+use Rattle.receive.specs.Record.{freshReceiver, receiverMade, storeAgrees, awaited, started}
+use Rattle.store.specs.Store.{written}
 use Rattle.receive.specs.Answers.{onFileReady, onSectionReady, onSectionClose, onFileClose, onClose, onSegment, receive, toSend}
 use Rattle.exchange.specs.Exchange.{Side, byProvider, byReceiver, Passing}
 use Rattle.exchange.specs.Transfer.{Sound, senderOf, Radio, Transfer, Transferred, providerFrames, receiverFrames, exchanged}

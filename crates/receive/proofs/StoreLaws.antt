@@ -5,7 +5,7 @@ use mathlib.Core.List.{List, _++_, append-assoc}
 use native.Mathlib.Nat.{add-assoc}
 use lib.ListN.{length, take, drop}
 use lib.Seq.{take-append-seam, drop-append-seam, take-append-add, drop-append-add}
-use Rattle.receive.specs.Record.{written}
+use Rattle.store.specs.Store.{written}
 
 module _ (acc sec rest : List ℕ) where
   -- a segment goes behind what is under way, and every other octet keeps its value

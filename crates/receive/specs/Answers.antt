@@ -22,7 +22,8 @@ use Rattle.ft.specs.declared.Received.{Received}
 use Rattle.ft.specs.declared.Received.the-variants as D
 use Rattle.ft.specs.declared.Reaction.{Reaction}
 use Rattle.ft.specs.declared.Reaction.the-variants as A
-use Rattle.receive.specs.Record.{storeAgrees, sending, holding, stating, ended, keptOctets, stagedOctets, written, awaited, stepped}
+use Rattle.receive.specs.Record.{storeAgrees, sending, holding, stating, ended, keptOctets, stagedOctets, awaited, stepped}
+use Rattle.store.specs.Store.{written}
 use Rattle.receive.specs.declared.Sent.{Sent}
 use Rattle.receive.specs.declared.Sent.the-variants.{Request, Acknowledgement}
 use Rattle.receive.specs.declared.Receiver.{Receiver}

@@ -75,10 +75,6 @@ keptOctets r store = take (r .kept) store
 abbrev pub stagedOctets : Receiver → List ℕ → List ℕ
 stagedOctets r store = take (r .staged) (drop (r .kept) store)
 
--- octets written into the store's middle, from a place on
-unfoldable pub written : List ℕ → ℕ → List ℕ → List ℕ
-written store place o = take place store ++ (o ++ drop (place + length o) store)
-
 -- how many octets have arrived so far; it stays at the largest number, as in the Rust
 unfoldable pub receivedOctets : Receiver → ℕ
 receivedOctets r = min 18446744073709551615 (r .kept + r .staged)

@@ -3,7 +3,6 @@ use crate::Receiver;
 use crate::ReceiverAnswer;
 use crate::ReceiverStep;
 use crate::Sent;
-use crate::store;
 use asdu::Afq;
 use asdu::Chs;
 use asdu::Frq;
@@ -18,11 +17,12 @@ use asdu::UnknownField;
 use frame::Frame;
 use ft::Reaction;
 use ft::Received;
+use ft::checksum;
 ghost use mathlib.Core.Path.{_≡_};
 ghost use mathlib.Core.List.{List};
-ghost use Prim.Native.Nat.{ℕ, _+_, _≤_, _<_, _^_};
+ghost use Prim.Native.Nat.{ℕ, _+_, _-_, _≤_, _<_, _^_};
 ghost use lib.Dec.{eqb};
-ghost use lib.ListN.{length};
+ghost use lib.ListN.{length, take, drop};
 ghost use Rattle.laws.specs.When.{_or_};
 ghost use Rattle.ft.specs.Checksum.{checksum};
 ghost use Rattle.receive.specs.Record.{keptOctets, stagedOctets, stepped};
@@ -46,6 +46,14 @@ fn closes_file(lsq: Lsq) -> bool
         return true;
     }
     lsq.value == Lsq::FILE_WITH_DEACTIVATION
+}
+
+// The sum of the store's octets between two places.
+fn sum_between(store: &[u8], from: usize, to: usize) -> Chs
+    requires { ⌜ (from ≤ to) × (to ≤ length (now store)) ⌝ }
+    ensures { λ r. ⌜ r .value ≡ checksum (take (to - from) (drop from (now (store .entry)))) ⌝ }
+{
+    checksum::checksum(&store[from..to])
 }
 
 impl Receiver {
@@ -147,10 +155,10 @@ impl Receiver {
         let kept = self.kept;
         let held = kept + self.staged;
         if closes_section(lsq) {
-            return self.close_section(store::sum_between(store, kept, held), nos, chs);
+            return self.close_section(sum_between(store, kept, held), nos, chs);
         }
         if closes_file(lsq) {
-            return self.close_file(store::sum_between(store, 0, kept), nos, chs);
+            return self.close_file(sum_between(store, 0, kept), nos, chs);
         }
         self.ends(ReceiverAnswer::UnknownLsq(lsq))
     }

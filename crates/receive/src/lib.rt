@@ -3,7 +3,6 @@
 mod answered; // what a received frame does
 mod record; // the record: its making, what it holds and what it sends
 mod step; // what a step makes of the record
-mod store; // the octets that are kept, and where a segment is written
 
 use asdu::Cause;
 use asdu::Chs;

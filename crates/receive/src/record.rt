@@ -5,7 +5,6 @@ use crate::Receiver;
 use crate::ReceiverResult;
 use crate::ReceiverStep;
 use crate::Sent;
-use crate::store;
 use asdu::Afq;
 use asdu::FtError;
 use asdu::Nof;

@@ -9,7 +9,7 @@ use lib.Dec.{leb}
 use lib.ListN.{length, take, drop, set, length-append}
 use lib.Seq.{set-split, length-take-le, take-at, drop-at, drop-drop}
 use borrow.Author.Tests.{leb-true, leb-false}
-use Rattle.receive.specs.Record.{written}
+use Rattle.store.specs.Store.{written}
 use Rattle.script.specs.Decimal.{decimal}
 use Rattle.script.specs.Answers.{over}
 use Rattle.script.specs.LineText.{Put}

@@ -4,7 +4,7 @@ use mathlib.Core.Path.{_≡_}
 use mathlib.Core.List.{List, [], _∷_, _++_}
 use lib.ListN.{length}
 use Rattle.frame.specs.declared.Frame.{Frame}
-use Rattle.receive.specs.Record.{written}
+use Rattle.store.specs.Store.{written}
 use Rattle.exchange.specs.Exchange.{Side, byProvider, byReceiver}
 use Rattle.exchange.specs.Lines.{lineFor}
 use Rattle.script.specs.Decimal.{spaced}

@@ -6,9 +6,9 @@ use native.Mathlib.Omega.{arith}
 use borrow.Author.Needs.{needs}
 use lib.ListN.{length, take, drop, getD, set, length-set}
 use lib.Seq.{take-length}
-use Rattle.receive.proofs.Parts.{front-next}
-use Rattle.receive.proofs.store.copy_front.Statement.{statement}
-use Rattle.receive.proofs.store.copy_front.Tie as tie
+use Rattle.store.proofs.Parts.{front-next}
+use Rattle.store.proofs.copy_front.Statement.{statement}
+use Rattle.store.proofs.copy_front.Tie as tie
 
 abbrev Inv-loop : tie.InvT-loop
 Inv-loop part₀ octets i₀ part i = (i ≤ length octets) × (part ≡ take i octets ++ drop i part₀) × (length part ≡ length part₀)

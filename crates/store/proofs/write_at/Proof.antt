@@ -7,9 +7,9 @@ use borrow.Author.Tests.{leb-true}
 use denote.Ref.{now}
 use lib.ListN.{length, length-take, length-drop}
 use Rattle.laws.proofs.Decide.{whens, yes, nay}
-use Rattle.receive.proofs.Parts.{written-part}
-use Rattle.receive.proofs.store.write_at.Statement.{statement}
-use Rattle.receive.proofs.store.write_at.Tie as tie
+use Rattle.store.proofs.Parts.{written-part}
+use Rattle.store.proofs.write_at.Statement.{statement}
+use Rattle.store.proofs.write_at.Tie as tie
 
 sub-copy-front : tie.Need-sub-copy-front
 sub-copy-front c =

@@ -2,8 +2,8 @@ use Prim.Native.Nat.{_+_}
 use mathlib.Core.Path.{sym}
 use native.Mathlib.Omega.{arith}
 use borrow.Author.Tests.{le-leb, lt-leb}
-use Rattle.receive.proofs.store.is_held.Statement.{statement}
-use Rattle.receive.proofs.store.is_held.Tie as tie
+use Rattle.store.proofs.is_held.Statement.{statement}
+use Rattle.store.proofs.is_held.Tie as tie
 
 returns : tie.Need-returns
 returns c = let a = c .before .before .args in sym (le-leb (a .kept + a .staged) (a .len) (omega arith))

@@ -1,18 +1,15 @@
-// The lent store: the accepted octets first, then the section under way, and the place after them
-// where the next segment is written.
-use asdu::Chs;
-use ft::checksum;
+// A lent store of octets: those that are accepted stand first, then those under way, and after them is the
+// place where the next are written.
 ghost use mathlib.Core.Path.{_≡_};
 ghost use mathlib.Core.List.{_++_};
-ghost use Prim.Native.Nat.{_+_, _-_, _≤_, min};
+ghost use Prim.Native.Nat.{_+_, _≤_, min};
 ghost use lib.Dec.{leb};
-ghost use lib.ListN.{length, take, drop};
+ghost use lib.ListN.{length, drop};
 ghost use Rattle.laws.specs.When.{when};
-ghost use Rattle.ft.specs.Checksum.{checksum};
-ghost use Rattle.receive.specs.Record.{written};
+ghost use Rattle.store.specs.Store.{written};
 
 // Both counts together, or the largest number where that is larger.
-pub(crate) fn saturating_sum(kept: usize, staged: usize) -> usize
+pub fn saturating_sum(kept: usize, staged: usize) -> usize
     ensures { λ r. ⌜ r ≡ min 18446744073709551615 (kept + staged) ⌝ }
 {
     if staged <= usize::MAX - kept {
@@ -22,7 +19,7 @@ pub(crate) fn saturating_sum(kept: usize, staged: usize) -> usize
 }
 
 // Whether a store of this length holds what is accepted and under way.
-pub(crate) fn is_held(kept: usize, staged: usize, len: usize) -> bool
+pub fn is_held(kept: usize, staged: usize, len: usize) -> bool
     ensures { λ r. ⌜ r ≡ leb (kept + staged) len ⌝ }
 {
     if kept <= len {
@@ -47,7 +44,7 @@ fn copy_front(part: &mut [u8], octets: &[u8])
 
 // Writes the octets into the store from a place on and says so, or leaves the store where it cannot
 // take them there.
-pub(crate) fn write_at(store: &mut [u8], place: usize, octets: &[u8]) -> bool
+pub fn write_at(store: &mut [u8], place: usize, octets: &[u8]) -> bool
     ensures { λ r. ⌜ (r ≡ leb (place + length (now (octets .entry))) (length (now (store .entry)))) × (now (store .exit) ≡ when r (written (now (store .entry)) place (now (octets .entry))) (now (store .entry))) ⌝ }
 {
     if is_held(place, octets.len(), store.len()) {
@@ -55,12 +52,4 @@ pub(crate) fn write_at(store: &mut [u8], place: usize, octets: &[u8]) -> bool
         return true;
     }
     false
-}
-
-// The sum of the store's octets between two places.
-pub(crate) fn sum_between(store: &[u8], from: usize, to: usize) -> Chs
-    requires { ⌜ (from ≤ to) × (to ≤ length (now store)) ⌝ }
-    ensures { λ r. ⌜ r .value ≡ checksum (take (to - from) (drop from (now (store .entry)))) ⌝ }
-{
-    checksum::checksum(&store[from..to])
 }

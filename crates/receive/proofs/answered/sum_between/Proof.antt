@@ -1,6 +1,6 @@
 use borrow.Author.Needs.{needs}
-use Rattle.receive.proofs.store.sum_between.Statement.{statement}
-use Rattle.receive.proofs.store.sum_between.Tie as tie
+use Rattle.receive.proofs.answered.sum_between.Statement.{statement}
+use Rattle.receive.proofs.answered.sum_between.Tie as tie
 
 pub sum-between-spec : {M : Type 1} → statement M
 sum-between-spec =
