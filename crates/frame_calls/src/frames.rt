@@ -5,9 +5,8 @@ use frame::SomeNof;
 use frame::SomeNos;
 use frame::answer;
 use frame::range;
-use ft::Asdu;
-use ft::AsduResult;
 use ft::build;
+use station_calls::made;
 use values::make;
 use values::show;
 use words::Numbers;
@@ -36,25 +35,6 @@ fn some_nos(nos: SomeNos) {
 
 fn some_cause(cause: Cause) {
     write::one(cause.value as u64);
-}
-
-// `made`, its header and the frame.
-fn made(asdu: Asdu) {
-    let header = asdu.header;
-    let frame = asdu.frame;
-    write::word(write::MADE);
-    write::text(b" ");
-    show::header(header);
-    write::text(b" ");
-    show::frame(frame);
-}
-
-// What a making of a frame answers.
-pub fn asdu(result: AsduResult) {
-    match result {
-        AsduResult::Ok(asdu) => made(asdu),
-        AsduResult::Err(error) => write::refused(error),
-    }
 }
 
 // ---- Calls
@@ -98,7 +78,7 @@ fn frame_with(args: &Numbers, octets: &[u8]) {
     let sizes = make::sizes(args, 0);
     let ca = u16_at(args, 0, 3);
     let org = u8_at(args, 0, 4);
-    asdu(build::frame_with(sizes, ca, org, make::frame(args, 5), octets));
+    made::asdu(build::frame_with(sizes, ca, org, make::frame(args, 5), octets));
 }
 
 fn respond(which: u8, args: &Numbers, octets: &[u8]) {

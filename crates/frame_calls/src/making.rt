@@ -1,8 +1,8 @@
 // Calls of the makers of frames. Each begins with the common address, the originator and the object
 // address.
-use crate::frames;
 use asdu::Nof;
 use asdu::Nos;
+use station_calls::made;
 use values::make;
 use words::Numbers;
 use words::Octets;
@@ -13,59 +13,59 @@ use words::u16_at;
 use words::u32_at;
 
 fn call_directory(ca: u16, org: u8, ioa: u32, nof: Nof) {
-    frames::asdu(makers::call_directory(ca, org, ioa, nof));
+    made::asdu(makers::call_directory(ca, org, ioa, nof));
 }
 
 fn select_file(ca: u16, org: u8, ioa: u32, nof: Nof, nos: Nos) {
-    frames::asdu(makers::select_file(ca, org, ioa, nof, nos));
+    made::asdu(makers::select_file(ca, org, ioa, nof, nos));
 }
 
 fn call_file(ca: u16, org: u8, ioa: u32, nof: Nof, nos: Nos) {
-    frames::asdu(makers::call_file(ca, org, ioa, nof, nos));
+    made::asdu(makers::call_file(ca, org, ioa, nof, nos));
 }
 
 fn call_section(ca: u16, org: u8, ioa: u32, nof: Nof, nos: Nos) {
-    frames::asdu(makers::call_section(ca, org, ioa, nof, nos));
+    made::asdu(makers::call_section(ca, org, ioa, nof, nos));
 }
 
 fn segment(ca: u16, org: u8, ioa: u32, nof: Nof, nos: Nos, octets: &[u8]) {
-    frames::asdu(makers::segment(ca, org, ioa, nof, nos, octets));
+    made::asdu(makers::segment(ca, org, ioa, nof, nos, octets));
 }
 
 fn directory(ca: u16, org: u8, ioa: u32, args: &Numbers, octets: &[u8]) {
-    frames::asdu(makers::directory(ca, org, ioa, make::cause(args, 3), octets));
+    made::asdu(makers::directory(ca, org, ioa, make::cause(args, 3), octets));
 }
 
 fn sc(ca: u16, org: u8, ioa: u32, nof: Nof, nos: Nos, args: &Numbers) {
-    frames::asdu(makers::sc(ca, org, ioa, nof, nos, make::scq(args, 5)));
+    made::asdu(makers::sc(ca, org, ioa, nof, nos, make::scq(args, 5)));
 }
 
 fn file_ready(ca: u16, org: u8, ioa: u32, nof: Nof, args: &Numbers) {
     let lof = make::lof(args, 4);
     let frq = make::frq(args, 5);
-    frames::asdu(makers::file_ready(ca, org, ioa, nof, lof, frq));
+    made::asdu(makers::file_ready(ca, org, ioa, nof, lof, frq));
 }
 
 fn section_ready(ca: u16, org: u8, ioa: u32, nof: Nof, nos: Nos, args: &Numbers) {
     let lof = make::lof(args, 5);
     let srq = make::srq(args, 6);
-    frames::asdu(makers::section_ready(ca, org, ioa, nof, nos, lof, srq));
+    made::asdu(makers::section_ready(ca, org, ioa, nof, nos, lof, srq));
 }
 
 fn ack(ca: u16, org: u8, ioa: u32, nof: Nof, nos: Nos, args: &Numbers) {
-    frames::asdu(makers::ack(ca, org, ioa, nof, nos, make::afq(args, 5)));
+    made::asdu(makers::ack(ca, org, ioa, nof, nos, make::afq(args, 5)));
 }
 
 fn query_log(ca: u16, org: u8, ioa: u32, nof: Nof, args: &Numbers) {
     let start = make::time(args, 4);
     let stop = make::time(args, 14);
-    frames::asdu(makers::query_log(ca, org, ioa, nof, start, stop));
+    made::asdu(makers::query_log(ca, org, ioa, nof, start, stop));
 }
 
 fn last_segment(ca: u16, org: u8, ioa: u32, nof: Nof, nos: Nos, args: &Numbers) {
     let lsq = make::lsq(args, 5);
     let chs = make::chs(args, 6);
-    frames::asdu(makers::last_segment(ca, org, ioa, nof, nos, lsq, chs));
+    made::asdu(makers::last_segment(ca, org, ioa, nof, nos, lsq, chs));
 }
 
 // The makers of a request, and those that have octets beside them.

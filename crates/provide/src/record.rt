@@ -9,16 +9,12 @@ use asdu::Nof;
 use ft::FileTransferProcedure;
 use ft::procedure;
 ghost use mathlib.Core.Path.{_≡_};
-ghost use Prim.Native.Nat.{_+_, _≤_, min};
 ghost use lib.Dec.{eqb, leb};
 ghost use lib.ListN.{length};
 ghost use Rattle.laws.specs.When.{_and_};
 ghost use Rattle.ft.specs.Building.{addressed};
 ghost use Rattle.provide.specs.Sections.{sectionLength};
 ghost use Rattle.provide.specs.Record.{freshProvider, providerMade, fileAgrees, ended, counted};
-
-// The largest value of the count of requests for another file.
-const MAX_UNMATCHED: u32 = 0xFFFF_FFFF;
 
 // Whether a station may send with these settings about this object address.
 fn is_addressed(procedure: FileTransferProcedure, ioa: u32) -> bool
@@ -56,16 +52,6 @@ fn is_cut(length: u32, section_len: u32, n: usize) -> bool
         }
     }
     false
-}
-
-// One more, up to the largest value.
-fn one_more(count: u32) -> u32
-    ensures { λ r. ⌜ r ≡ min 4294967295 (count + 1) ⌝ }
-{
-    if MAX_UNMATCHED <= count {
-        return MAX_UNMATCHED;
-    }
-    count + 1
 }
 
 impl Provider {
@@ -138,7 +124,7 @@ impl Provider {
             nof,
             length: self.length,
             section_len: self.section_len,
-            unmatched: one_more(self.unmatched),
+            unmatched: counts::one_more(self.unmatched),
             done: self.done,
         }
     }

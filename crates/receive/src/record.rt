@@ -72,7 +72,7 @@ impl Receiver {
     pub fn received(self) -> usize
         ensures { λ r. ⌜ r ≡ receivedOctets self ⌝ }
     {
-        store::saturating_sum(self.kept, self.staged)
+        counts::saturating_sum(self.kept, self.staged)
     }
 
     // Whether a making gives this record and the store holds its octets: else 26.

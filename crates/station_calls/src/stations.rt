@@ -3,7 +3,6 @@ use crate::kept;
 use crate::kept::STATION;
 use asdu::AddressSizes;
 use asdu::Discard;
-use frame_calls::frames;
 use ft::FileTransferProcedure;
 use ft::ProcedureResult;
 use ft::Reaction;
@@ -127,7 +126,7 @@ fn serves(station: FileTransferProcedure, args: &Numbers) {
 }
 
 fn build(station: FileTransferProcedure, args: &Numbers, octets: &[u8]) {
-    frames::asdu(station.build(make::frame(args, 0), octets));
+    crate::made::asdu(station.build(make::frame(args, 0), octets));
 }
 
 fn on_asdu(station: FileTransferProcedure, args: &Numbers, octets: &[u8]) {

@@ -2,21 +2,11 @@
 // place where the next are written.
 ghost use mathlib.Core.Path.{_≡_};
 ghost use mathlib.Core.List.{_++_};
-ghost use Prim.Native.Nat.{_+_, _≤_, min};
+ghost use Prim.Native.Nat.{_+_, _≤_};
 ghost use lib.Dec.{leb};
 ghost use lib.ListN.{length, drop};
 ghost use Rattle.laws.specs.When.{when};
 ghost use Rattle.store.specs.Store.{written};
-
-// Both counts together, or the largest number where that is larger.
-pub fn saturating_sum(kept: usize, staged: usize) -> usize
-    ensures { λ r. ⌜ r ≡ min 18446744073709551615 (kept + staged) ⌝ }
-{
-    if staged <= usize::MAX - kept {
-        return kept + staged;
-    }
-    usize::MAX
-}
 
 // Whether a store of this length holds what is accepted and under way.
 pub fn is_held(kept: usize, staged: usize, len: usize) -> bool

@@ -1,0 +1,26 @@
+// Counts that stay at their largest value.
+ghost use mathlib.Core.Path.{_≡_};
+ghost use Prim.Native.Nat.{_+_, min};
+
+// The largest value of a count of 32 bits.
+const MAX: u32 = 0xFFFF_FFFF;
+
+// Both counts together, or the largest number where that is larger.
+pub fn saturating_sum(kept: usize, staged: usize) -> usize
+    ensures { λ r. ⌜ r ≡ min 18446744073709551615 (kept + staged) ⌝ }
+{
+    if staged <= usize::MAX - kept {
+        return kept + staged;
+    }
+    usize::MAX
+}
+
+// One more, up to the largest value.
+pub fn one_more(count: u32) -> u32
+    ensures { λ r. ⌜ r ≡ min 4294967295 (count + 1) ⌝ }
+{
+    if MAX <= count {
+        return MAX;
+    }
+    count + 1
+}
