@@ -8,6 +8,7 @@ use Rattle.asdu.specs.declared.Srq.{Srq}
 use Rattle.asdu.specs.declared.Scq.{Scq}
 use Rattle.asdu.specs.declared.Afq.{Afq}
 use Rattle.asdu.specs.declared.Lof.{Lof}
+use Rattle.asdu.specs.declared.Los.{Los}
 use Rattle.asdu.specs.declared.Sof.{Sof}
 
 -- seven bits beside the flag
@@ -27,6 +28,10 @@ afqInRange q = leb (q .action) 15 and leb (q .error) 15
 -- three octets
 abbrev pub lofInRange : Lof → Bool
 lofInRange l = leb (l .value) 0xFFFFFF
+
+-- a segment has at least one octet, and at most 240
+unfoldable pub losInRange : Los → Bool
+losInRange l = leb 1 (l .value) and leb (l .value) 240
 
 -- five bits beside the three flags
 abbrev pub sofInRange : Sof → Bool

@@ -1,5 +1,5 @@
 -- The packed directory entry, as IEC 60870-5-101 lays out type 126: NOF 2 octets, LOF 3, SOF 1, time 7, the lowest octet of each number first.
-use Prim.Native.Nat.{ℕ, zero, suc, _+_, _*_, _/_, _%_}
+use Prim.Native.Nat.{ℕ, zero, suc, _+_, _*_, _/_, _%_, min}
 use mathlib.Core.Bool.{Bool, true}
 use mathlib.Core.List.{List, [], _∷_}
 use lib.Dec.{eqb}
@@ -118,6 +118,10 @@ unpacked o = when (eqb (length o) 13 and reservedClear o) (U.Ok (entryOf o)) (U.
 abbrev pub allClear : ℕ → List ℕ → Bool
 allClear zero o = true
 allClear (suc n) o = reservedClear (take 13 o) and allClear n (drop 13 o)
+
+-- the address of an entry, counted from the one that has the address `base`: they rise by 1 and stop at 4,294,967,295
+unfoldable pub entryAddress : ℕ → ℕ → ℕ
+entryAddress base i = min (base + i) 0xFFFFFFFF
 
 -- the entries of a directory page: 1 to 18 whole ones, each in range
 unfoldable pub pageRight : List ℕ → Bool

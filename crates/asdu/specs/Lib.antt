@@ -1,4 +1,5 @@
 pub mod Number
+pub mod Codes
 pub mod Elements
 pub mod Time
 pub mod Sizes

@@ -7,13 +7,19 @@ use crate::Lof;
 use crate::Nof;
 use crate::Packed;
 use crate::Sof;
+use crate::sizes;
+use counts::least;
+use counts::saturating_sum;
 ghost use mathlib.Core.Path.{_≡_};
 ghost use mathlib.Core.Bool.{true};
 ghost use Prim.Native.Nat.{_+_, _*_, _/_, _%_, _<_, _≤_};
 ghost use lib.ListN.{length, getD};
 ghost use lib.Seq.{sets};
 ghost use Rattle.asdu.specs.Time.{timeInRange};
-ghost use Rattle.asdu.specs.Entry.{entryInRange, flag, sofOctet, timeOctets, entryOctets, bitOf, sofOf, timeAt, entryOf, reservedClear, packAnswer, packInto, unpacked, allClear, pageRight};
+ghost use Rattle.asdu.specs.Entry.{entryInRange, flag, sofOctet, timeOctets, entryOctets, bitOf, sofOf, timeAt, entryOf, reservedClear, packAnswer, packInto, unpacked, allClear, pageRight, entryAddress};
+
+// The largest number that an address can rise to.
+const MAX_ADDRESS: usize = 0xFFFF_FFFF;
 
 impl DirectoryEntry {
     pub const LEN: usize = 13;
@@ -243,10 +249,18 @@ pub fn is_page(octets: &[u8]) -> bool
     let entries = octets.len() / DirectoryEntry::LEN;
     if octets.len() % DirectoryEntry::LEN == 0 {
         if 1 <= entries {
-            if entries <= 18 {
+            if entries <= sizes::MAX_DIRECTORY_FILES {
                 return are_clear(octets);
             }
         }
     }
     false
+}
+
+// The address of an entry, counted from the one that has the address `base`: they rise by 1 and stop at
+// the largest number (document 01, The directory).
+pub fn entry_address(base: u32, index: usize) -> u32
+    ensures { λ r. ⌜ r ≡ entryAddress base index ⌝ }
+{
+    least(saturating_sum(base as usize, index), MAX_ADDRESS) as u32
 }

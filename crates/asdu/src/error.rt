@@ -1,5 +1,4 @@
 // Every numbered refusal of document 01, one case each: Rust's AsduError and FtError in one.
-use crate::Chs;
 use crate::FtError;
 ghost use mathlib.Core.Path.{_≡_};
 ghost use Rattle.asdu.specs.Number.{numberOf};

@@ -11,7 +11,7 @@ use crate::Scq;
 use crate::Sof;
 use crate::Srq;
 ghost use mathlib.Core.Path.{_≡_};
-ghost use Rattle.asdu.specs.Elements.{frqInRange, srqInRange, scqInRange, afqInRange, lofInRange, sofInRange};
+ghost use Rattle.asdu.specs.Elements.{frqInRange, srqInRange, scqInRange, afqInRange, lofInRange, losInRange, sofInRange};
 
 impl Frq {
     pub const MAX: u8 = 127;
@@ -117,6 +117,16 @@ impl Los {
     pub const LEN: usize = 1;
 
     pub const MAX: u8 = 240;
+
+    // A segment has at least one octet.
+    pub fn is_in_range(self) -> bool
+        ensures { λ r. ⌜ r ≡ losInRange self ⌝ }
+    {
+        if 1 <= self.value {
+            return self.value <= Los::MAX;
+        }
+        false
+    }
 }
 
 impl Sof {

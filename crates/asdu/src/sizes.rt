@@ -1,16 +1,19 @@
 // The widths of a system's header fields and addresses (IEC 60870-5-104, 9.5), and the lengths that
 // follow from them and from the 249 octets of an ASDU.
 use crate::AddressSizes;
+use crate::DirectoryEntry;
 use crate::FtError;
 use crate::Los;
 use crate::Nof;
 use crate::Nos;
 use crate::SizesResult;
+use counts::least;
 ghost use mathlib.Core.Path.{_≡_};
-ghost use Prim.Native.Nat.{_-_, min};
+ghost use Prim.Native.Nat.{_-_};
 ghost use Rattle.asdu.specs.Sizes.{within, sizesRight, sizesMade, hasOriginator, headerLen, maxIoa, maxCommonAddress, elementRoom, segmentLimit, pageEntries};
 
-// The longest ASDU: an APDU's 253 octets less the 4 of its control field.
+// The longest ASDU: the 253 octets that an APDU's length field can state, less the 4 of its control
+// field. The APDU itself has 255, with its start and its length (IEC 60870-5-104, 5).
 pub const MAX_ASDU: usize = 249;
 
 // The entries of a directory page, the same at every width.
@@ -34,12 +37,6 @@ fn saturating_sub(a: usize, b: usize) -> usize
     ensures { λ r. ⌜ r ≡ a - b ⌝ }
 {
     if b <= a { a - b } else { 0 }
-}
-
-fn least(a: usize, b: usize) -> usize
-    ensures { λ r. ⌜ r ≡ min a b ⌝ }
-{
-    if a < b { a } else { b }
 }
 
 impl AddressSizes {
@@ -148,5 +145,5 @@ pub fn max_segment(sizes: AddressSizes) -> usize
 pub fn max_directory_files(sizes: AddressSizes) -> usize
     ensures { λ r. ⌜ r ≡ pageEntries sizes ⌝ }
 {
-    sizes.element_room() / 13
+    sizes.element_room() / DirectoryEntry::LEN
 }

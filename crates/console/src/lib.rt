@@ -9,7 +9,6 @@ use libc::STDOUT_FILENO;
 use run::RunResult;
 use script::Outline;
 use script::ScriptResult;
-use script::line;
 use script::read;
 use twoparty::Passing;
 use twoparty::Settings;
@@ -66,7 +65,7 @@ fn print_line(out: &[u8; 32], count: usize) {
 
 fn print_frame(sender: Sender, frame: Frame) {
     let mut out = [0u8; 32];
-    let count = line::line(sender, frame, &mut out);
+    let count = lines::line(sender, frame, &mut out);
     print_line(&out, count);
 }
 

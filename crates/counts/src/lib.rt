@@ -1,4 +1,4 @@
-// Counts that stay at their largest value.
+// Counts that stay at their largest value, and the lesser of two.
 ghost use mathlib.Core.Path.{_≡_};
 ghost use Prim.Native.Nat.{_+_, min};
 
@@ -13,6 +13,13 @@ pub fn saturating_sum(kept: usize, staged: usize) -> usize
         return kept + staged;
     }
     usize::MAX
+}
+
+// The lesser of two.
+pub fn least(a: usize, b: usize) -> usize
+    ensures { λ r. ⌜ r ≡ min a b ⌝ }
+{
+    if a < b { a } else { b }
 }
 
 // One more, up to the largest value.

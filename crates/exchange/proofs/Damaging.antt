@@ -7,7 +7,7 @@ use native.Mathlib.Omega.{arith}
 use lib.ListN.{length, replicate}
 use Rattle.lists.specs.Parts.{joined}
 use Rattle.lists.proofs.Parts.{Fit, length-parts, joined-all, fit-all}
-use Rattle.ft.specs.Checksum.{octetSum, checksum}
+use Rattle.checksum.specs.Checksum.{octetSum, checksum}
 use Rattle.provide.specs.Sections.{sectionLength, sectionCount, sections, segments}
 use Rattle.exchange.specs.Transfer.{Sending, arrived, AllDamaged, Damaged, Radio}
 use Rattle.exchange.specs.Damaging.{raised, unhurt, hurt, namings, scriptRadio, Nameable}

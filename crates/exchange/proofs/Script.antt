@@ -10,11 +10,11 @@ use Rattle.asdu.specs.Sizes.{within, sizesRight, headerLen, maxIoa, maxCommonAd
 use Rattle.frame.specs.Frames.{scCause, isFileType}
 use Rattle.frame.specs.Ranges.{segmentInRange}
 use Rattle.frame.specs.Answers.{calledSection, oneOf, fileAnswered, sectionAnswered, scAnswered, ackAnswered, namesAgree, answersTo}
-use Rattle.ft.specs.Checksum.{octetSum, checksum}
+use Rattle.checksum.specs.Checksum.{octetSum, checksum}
 use Rattle.ft.specs.Directions.{usesFunction}
-use Rattle.ft.specs.Procedure.{conventional, addressRight, settled}
+use Rattle.ft.specs.Procedure.{conventional, addressRight, settled, addressed}
 use Rattle.ft.specs.Admission.{serves, frameAgrees, admitFrame, onAsdu, matched, onAnswer}
-use Rattle.ft.specs.Building.{addressed, framed, built}
+use Rattle.ft.specs.Building.{framed, built}
 use Rattle.ft.specs.declared.Role.the-variants.{Controlling, Controlled}
 use Rattle.provide.specs.Sections.{sectionLength, sectionCount, sections, sectionOctets, segments}
 use Rattle.provide.specs.Record.{freshProvider, providerMade, fileAgrees}

@@ -17,7 +17,7 @@ use Rattle.asdu.specs.declared.Lsq.{Lsq}
 use Rattle.asdu.specs.declared.Chs.{Chs}
 use Rattle.frame.specs.declared.Frame.the-variants as F
 use Rattle.frame.specs.Answers.{answersTo, namesAgree, ackAnswered, oneOf}
-use Rattle.ft.specs.Checksum.{checksum}
+use Rattle.checksum.specs.Checksum.{checksum}
 use Rattle.provide.specs.Sections.{sectionLength, sectionCount, segments}
 use Rattle.provide.specs.Replies.{octetsOf, sectionReady, closeFrame}
 use Rattle.provide.specs.Requests.{replying, onAck}

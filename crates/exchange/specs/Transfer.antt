@@ -11,7 +11,7 @@ use Rattle.asdu.specs.declared.Nof.{Nof}
 use Rattle.asdu.specs.declared.Header.{Header}
 use Rattle.frame.specs.declared.Frame.{Frame}
 use Rattle.frame.specs.Frames.{typeOf, causeOf}
-use Rattle.ft.specs.Checksum.{checksum}
+use Rattle.checksum.specs.Checksum.{checksum}
 use Rattle.ft.specs.Directions.{otherRole}
 use Rattle.ft.specs.Admission.{serves}
 use Rattle.ft.specs.declared.FileTransferProcedure.{FileTransferProcedure}

@@ -3,6 +3,7 @@ use Prim.Native.Nat.{ℕ}
 use mathlib.Core.Bool.{Bool, true, false}
 use lib.Dec.{eqb}
 use Rattle.laws.specs.When.{when, _and_, _or_}
+use Rattle.asdu.specs.Codes.{«F_FR_NA_1», «F_SR_NA_1», «F_LS_NA_1», «F_SG_NA_1», «F_DR_TA_1», «CALL_DIRECTORY», «SELECT_FILE», «REQUEST_FILE», «SELECT_SECTION», «REQUEST_SECTION», «SECTION_POSITIVE», «SECTION_NEGATIVE»}
 use Rattle.asdu.specs.declared.Scq.{Scq}
 use Rattle.asdu.specs.declared.Nos.{Nos}
 use Rattle.frame.specs.Frames.{ioaOf, typeOf}
@@ -36,9 +37,9 @@ nosOf (Segment ioa nof nos los) = S.Some nos
 nosOf (Directory ioa cause) = S.None
 nosOf (QueryLog ioa nof start stop) = S.None
 
--- the section that a request names: a request for a section, SCQ 6, alone asks for one by its name
+-- the section that a request names: a request for a section alone asks for one by its name
 unfoldable pub calledSection : Nos → Scq → SomeNos
-calledSection nos q = when (eqb (q .action) 6) (S.Some nos) S.None
+calledSection nos q = when (eqb (q .action) «REQUEST_SECTION») (S.Some nos) S.None
 
 abbrev pub requestedSection : Frame → SomeNos
 requestedSection (FileReady ioa nof lof frq) = S.None
@@ -79,27 +80,27 @@ oneOf a b t = eqb t a or eqb t b
 
 -- a call of the file: a section ready, or a file ready that refuses
 unfoldable pub fileAnswered : ℕ → Bool → Bool
-fileAnswered t refused = eqb t 121 or (eqb t 120 and refused)
+fileAnswered t refused = eqb t «F_SR_NA_1» or (eqb t «F_FR_NA_1» and refused)
 
 -- a call of a section: a segment, a last segment, or a section ready that refuses
 unfoldable pub sectionAnswered : ℕ → Bool → Bool
-sectionAnswered t refused = oneOf 125 123 t or (eqb t 121 and refused)
+sectionAnswered t refused = oneOf «F_SG_NA_1» «F_LS_NA_1» t or (eqb t «F_SR_NA_1» and refused)
 
--- by the action of SCQ: 0 call directory, 1 select file, 2 request file, 5 select section, 6 request section; any other matches every kind
+-- by the action of SCQ; one that is not listed matches every kind
 unfoldable pub scAnswered : ℕ → ℕ → Bool → Bool
 scAnswered action t refused =
-    when (eqb action 0) (eqb t 126)
-    (when (eqb action 1) (eqb t 120)
-    (when (eqb action 2) (fileAnswered t refused)
-    (when (eqb action 5) (eqb t 121)
-    (when (eqb action 6) (sectionAnswered t refused)
+    when (eqb action «CALL_DIRECTORY») (eqb t «F_DR_TA_1»)
+    (when (eqb action «SELECT_FILE») (eqb t «F_FR_NA_1»)
+    (when (eqb action «REQUEST_FILE») (fileAnswered t refused)
+    (when (eqb action «SELECT_SECTION») (eqb t «F_SR_NA_1»)
+    (when (eqb action «REQUEST_SECTION») (sectionAnswered t refused)
     true))))
 
--- by the action of AFQ: 3 section positive, the next section or the last; 4 section negative, the section again; any other matches every kind
+-- by the action of AFQ: after a positive one of a section the next section or the last, after a negative one the section again; one that is not listed matches every kind
 unfoldable pub ackAnswered : ℕ → ℕ → Bool
 ackAnswered action t =
-    when (eqb action 3) (oneOf 121 123 t)
-    (when (eqb action 4) (oneOf 125 123 t)
+    when (eqb action «SECTION_POSITIVE») (oneOf «F_SR_NA_1» «F_LS_NA_1» t)
+    (when (eqb action «SECTION_NEGATIVE») (oneOf «F_SG_NA_1» «F_LS_NA_1» t)
     true)
 
 abbrev pub answersType : Frame → Frame → Bool
@@ -110,7 +111,7 @@ answersType (LastSection ioa nof nos lsq chs) a = true
 answersType (Ack ioa nof nos afq) a = ackAnswered (afq .action) (typeOf a)
 answersType (Segment ioa nof nos los) a = true
 answersType (Directory ioa cause) a = true
-answersType (QueryLog ioa nof start stop) a = eqb (typeOf a) 120
+answersType (QueryLog ioa nof start stop) a = eqb (typeOf a) «F_FR_NA_1»
 
 -- ---- the match
 

@@ -1,8 +1,11 @@
 -- What a frame says of itself: type identification, cause of transmission, side, object address, names (IEC 60870-5-101, 7.3.6; document 01, Elements and frames).
-use Prim.Native.Nat.{ℕ}
+use Prim.Native.Nat.{ℕ, _-_, _/_}
 use mathlib.Core.Bool.{Bool, true, false}
+use mathlib.Core.List.{List}
 use lib.Dec.{eqb, leb}
+use lib.ListN.{length}
 use Rattle.laws.specs.When.{when, _and_, _or_}
+use Rattle.asdu.specs.Entry.{entryAddress}
 use Rattle.asdu.specs.declared.Scq.{Scq}
 use Rattle.asdu.specs.declared.Cause.{Cause}
 use Rattle.frame.specs.declared.Frame.{Frame}
@@ -52,6 +55,17 @@ ioaOf (Ack ioa nof nos afq) = ioa
 ioaOf (Segment ioa nof nos los) = ioa
 ioaOf (Directory ioa cause) = ioa
 ioaOf (QueryLog ioa nof start stop) = ioa
+
+-- the last of a frame's object addresses: a directory page's entries, of 13 octets each, rise from its own
+abbrev pub lastIoa : Frame → List ℕ → ℕ
+lastIoa (FileReady ioa nof lof frq) beside = ioa
+lastIoa (SectionReady ioa nof nos lof srq) beside = ioa
+lastIoa (Sc ioa nof nos scq) beside = ioa
+lastIoa (LastSection ioa nof nos lsq chs) beside = ioa
+lastIoa (Ack ioa nof nos afq) beside = ioa
+lastIoa (Segment ioa nof nos los) beside = ioa
+lastIoa (Directory ioa cause) entries = entryAddress ioa (length entries / 13 - 1)
+lastIoa (QueryLog ioa nof start stop) beside = ioa
 
 -- the file transfer's types
 unfoldable pub isFileType : ℕ → Bool

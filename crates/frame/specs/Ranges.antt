@@ -5,7 +5,7 @@ use mathlib.Core.List.{List}
 use lib.Dec.{eqb, leb}
 use lib.ListN.{length}
 use Rattle.laws.specs.When.{when, _and_, _or_}
-use Rattle.asdu.specs.Elements.{frqInRange, srqInRange, scqInRange, afqInRange, lofInRange}
+use Rattle.asdu.specs.Elements.{frqInRange, srqInRange, scqInRange, afqInRange, lofInRange, losInRange}
 use Rattle.asdu.specs.Time.{timeInRange}
 use Rattle.asdu.specs.Sizes.{segmentLimit}
 use Rattle.asdu.specs.Entry.{pageRight}
@@ -15,10 +15,10 @@ use Rattle.asdu.specs.declared.AddressSizes.{AddressSizes}
 use Rattle.frame.specs.declared.Frame.{Frame}
 use Rattle.frame.specs.declared.Frame.the-variants.{FileReady, SectionReady, Sc, LastSection, Ack, Segment, Directory, QueryLog}
 
--- LOS is that of the payload, which has at least one octet and at most the segment limit
+-- LOS is that of the payload, which has at most the segment limit
 unfoldable pub segmentInRange : AddressSizes → Los → List ℕ → Bool
 segmentInRange z los payload =
-    leb 1 (length payload) and eqb (los .value) (length payload) and leb (length payload) (segmentLimit z)
+    losInRange los and eqb (los .value) (length payload) and leb (length payload) (segmentLimit z)
 
 -- spontaneous or requested
 unfoldable pub directoryCause : Cause → Bool

@@ -71,7 +71,7 @@ fn called_section(nos: Nos, scq: Scq) -> SomeNos
 }
 
 // Whether two names of file agree, where both frames have one.
-fn nof_agree(a: SomeNof, b: SomeNof) -> bool
+pub fn nof_agree(a: SomeNof, b: SomeNof) -> bool
     ensures { λ r. ⌜ r ≡ nofAgree a b ⌝ }
 {
     match a {

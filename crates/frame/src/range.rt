@@ -3,11 +3,16 @@
 use crate::Frame;
 use asdu::AddressSizes;
 use asdu::Cause;
+use asdu::DirectoryEntry;
 use asdu::Los;
 use asdu::entry;
 use asdu::sizes;
 ghost use mathlib.Core.Path.{_≡_};
+ghost use Prim.Native.Nat.{_-_, _/_};
+ghost use lib.ListN.{length};
 ghost use Rattle.laws.specs.When.{_and_};
+ghost use Rattle.asdu.specs.Entry.{entryAddress};
+ghost use Rattle.frame.specs.Frames.{lastIoa};
 ghost use Rattle.frame.specs.Ranges.{segmentInRange, directoryCause, directoryInRange, valuesInRange};
 
 fn both(a: bool, b: bool) -> bool
@@ -19,16 +24,15 @@ fn both(a: bool, b: bool) -> bool
     false
 }
 
-// A segment's length: that of its payload, which is not empty and no longer than the widths allow.
+// A segment's length: that of its payload, which is no longer than the widths allow.
 fn is_segment_in_range(sizes: AddressSizes, los: Los, payload: &[u8]) -> bool
     ensures { λ r. ⌜ r ≡ segmentInRange sizes los (now (payload .entry)) ⌝ }
 {
     let length = payload.len();
-    if length < 1 {
-        return false;
-    }
-    if los.value as usize == length {
-        return length <= sizes::max_segment(sizes);
+    if los.is_in_range() {
+        if los.value as usize == length {
+            return length <= sizes::max_segment(sizes);
+        }
     }
     false
 }
@@ -70,5 +74,32 @@ pub fn is_in_range(sizes: AddressSizes, frame: Frame, beside: &[u8]) -> bool
             range_stop,
             ..
         } => both(range_start.is_in_range(), range_stop.is_in_range()),
+    }
+}
+
+// The last address of a page's entries.
+fn last_entry(ioa: u32, entries: &[u8]) -> u32
+    ensures { λ r. ⌜ r ≡ entryAddress ioa (length (now (entries .entry)) / 13 - 1) ⌝ }
+{
+    let count = entries.len() / DirectoryEntry::LEN;
+    if count < 1 {
+        return entry::entry_address(ioa, 0);
+    }
+    entry::entry_address(ioa, count - 1)
+}
+
+// The last of a frame's object addresses: a directory page's entries rise from its own.
+pub fn last_ioa(frame: Frame, beside: &[u8]) -> u32
+    ensures { λ r. ⌜ r ≡ lastIoa frame (now (beside .entry)) ⌝ }
+{
+    match frame {
+        Frame::FileReady { ioa, .. } => ioa,
+        Frame::SectionReady { ioa, .. } => ioa,
+        Frame::Sc { ioa, .. } => ioa,
+        Frame::LastSection { ioa, .. } => ioa,
+        Frame::Ack { ioa, .. } => ioa,
+        Frame::Segment { ioa, .. } => ioa,
+        Frame::Directory { ioa, .. } => last_entry(ioa, beside),
+        Frame::QueryLog { ioa, .. } => ioa,
     }
 }

@@ -1,4 +1,3 @@
-pub mod Checksum
 pub mod Directions
 pub mod Procedure
 pub mod Admission

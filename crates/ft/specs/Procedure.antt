@@ -3,7 +3,7 @@ use Prim.Native.Nat.{ℕ}
 use mathlib.Core.Bool.{Bool, true, false}
 use lib.Dec.{eqb, leb, ltb}
 use Rattle.laws.specs.When.{when, unless, _and_, _or_}
-use Rattle.asdu.specs.Sizes.{sizesRight, hasOriginator, maxCommonAddress}
+use Rattle.asdu.specs.Sizes.{sizesRight, hasOriginator, maxIoa, maxCommonAddress}
 use Rattle.asdu.specs.declared.AddressSizes.{AddressSizes}
 use Rattle.asdu.specs.declared.FtError.the-variants.{InvalidAddressSizes, AddressOutOfRange, RecordMismatch}
 use Rattle.ft.specs.declared.Role.{Role}
@@ -20,6 +20,10 @@ conventional = record { «cause_octets» = 2; «common_address_octets» = 2; «i
 -- a station's own addresses: a common address that is neither 0 nor broadcast nor too wide, and no originator where the cause has one octet
 unfoldable pub addressRight : AddressSizes → ℕ → ℕ → Bool
 addressRight z ca org = leb 1 ca and ltb ca (maxCommonAddress z) and (hasOriginator z or eqb org 0)
+
+-- and an object address within its width
+unfoldable pub addressed : AddressSizes → ℕ → ℕ → ℕ → Bool
+addressed z ca org ioa = addressRight z ca org and leb ioa (maxIoa z)
 
 -- the making of a station: 2, then 3
 unfoldable pub procedureMade : Role → Selection → ℕ → ℕ → AddressSizes → ProcedureResult

@@ -10,19 +10,10 @@ use asdu::Header;
 use frame::Frame;
 use frame::range;
 ghost use mathlib.Core.Path.{_≡_};
-ghost use Rattle.ft.specs.Building.{addressed, headerOf, framed, built};
+ghost use Rattle.ft.specs.Building.{headerOf, framed, built};
 
-// Whether the own addresses and the object address can go out with these widths.
-fn is_addressed(sizes: AddressSizes, ca: u16, org: u8, ioa: u32) -> bool
-    ensures { λ r. ⌜ r ≡ addressed sizes ca org ioa ⌝ }
-{
-    if procedure::is_own_address(sizes, ca, org) {
-        return ioa <= sizes.max_ioa();
-    }
-    false
-}
-
-// The header of a frame that goes out under these addresses.
+// The header of a frame that goes out under these addresses. It judges neither: `frame_with` and `build`
+// do.
 pub fn header_of(ca: u16, org: u8, frame: Frame) -> Header
     ensures { λ r. ⌜ r ≡ headerOf ca org frame ⌝ }
 {
@@ -36,14 +27,18 @@ pub fn header_of(ca: u16, org: u8, frame: Frame) -> Header
     }
 }
 
-// A frame with these widths and addresses: 4 where a value is out of range, then 3 where an address is.
+// A frame with these widths and addresses: 2 for widths that no system has, 4 where a value is out of
+// range, 3 where an address is, a directory's by its last entry.
 pub fn frame_with(sizes: AddressSizes, ca: u16, org: u8, frame: Frame, beside: &[u8]) -> AsduResult
     ensures { λ r. ⌜ r ≡ framed sizes ca org frame (now (beside .entry)) ⌝ }
 {
+    if !sizes.is_right() {
+        return AsduResult::Err(FtError::InvalidAddressSizes);
+    }
     if !range::is_in_range(sizes, frame, beside) {
         return AsduResult::Err(FtError::ValueOutOfRange);
     }
-    if !is_addressed(sizes, ca, org, frame.ioa()) {
+    if !procedure::is_addressed(sizes, ca, org, range::last_ioa(frame, beside)) {
         return AsduResult::Err(FtError::AddressOutOfRange);
     }
     let header = header_of(ca, org, frame);

@@ -1,15 +1,13 @@
 // The file transfer procedure (IEC 60870-5-104, 7.11, over 60870-5-101, 7.4.11): roles and
-// directions, the checksum, what a station admits of what it receives, and the frames it makes. Which
+// directions, what a station admits of what it receives, and the frames it makes. Which
 // section is under way and what is stored is the layer's above.
 pub mod admit; // what a received frame means to a station
 pub mod build; // the frames that a station makes
-pub mod checksum; // the octet sum
 pub mod direction; // roles, directions and the selection
 pub mod procedure; // a station's settings
 
 use asdu::AddressSizes;
 use asdu::Cause;
-use asdu::Chs;
 use asdu::Discard;
 use asdu::FtError;
 use asdu::Header;
@@ -76,14 +74,4 @@ pub struct Asdu {
 pub enum AsduResult {
     Ok(Asdu),
     Err(FtError),
-}
-
-// What comparing a stated sum with the octets' answers: 8 comes with both.
-pub enum ChecksumResult {
-    Ok,
-    Err {
-        error: FtError,
-        expected: Chs,
-        got: Chs,
-    },
 }

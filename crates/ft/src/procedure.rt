@@ -7,7 +7,7 @@ use crate::Selection;
 use asdu::AddressSizes;
 use asdu::FtError;
 ghost use mathlib.Core.Path.{_≡_};
-ghost use Rattle.ft.specs.Procedure.{addressRight, settled, procedureMade, procedureWith, addressing, conventional};
+ghost use Rattle.ft.specs.Procedure.{addressRight, addressed, settled, procedureMade, procedureWith, addressing, conventional};
 ghost use Rattle.ft.specs.declared.Role.the-variants.{Controlling, Controlled};
 
 // Whether a station may have these addresses as its own: a common address that is not 0 and not
@@ -25,6 +25,16 @@ pub fn is_own_address(sizes: AddressSizes, ca: u16, org: u8) -> bool
         return true;
     }
     org == 0
+}
+
+// Whether frames about this object address can go out with these widths under these addresses.
+pub fn is_addressed(sizes: AddressSizes, ca: u16, org: u8, ioa: u32) -> bool
+    ensures { λ r. ⌜ r ≡ addressed sizes ca org ioa ⌝ }
+{
+    if is_own_address(sizes, ca, org) {
+        return ioa <= sizes.max_ioa();
+    }
+    false
 }
 
 impl FileTransferProcedure {

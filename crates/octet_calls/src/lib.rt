@@ -1,5 +1,4 @@
 // Calls of `replay` (docs/REPLAY.md) on the buffers, and on the scripts that are read into them.
-use ft::checksum;
 use script::Outline;
 use script::ScriptResult;
 use station_calls::kept;

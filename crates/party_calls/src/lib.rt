@@ -11,7 +11,6 @@ use machine_calls::providing;
 use machine_calls::receiving;
 use radio::Radio;
 use run::RunResult;
-use script::line;
 use station_calls::kept as held;
 use twoparty::Passing;
 use twoparty::Queue;
@@ -209,7 +208,7 @@ fn print_front(out: &[u8; 32], count: usize) {
 // The line of a frame as the transfer program prints it, without its end.
 fn print_line(sender: Sender, frame: Frame) {
     let mut out = [0u8; 32];
-    let count = line::line(sender, frame, &mut out);
+    let count = lines::line(sender, frame, &mut out);
     print_front(&out, count);
 }
 

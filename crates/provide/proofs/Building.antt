@@ -1,8 +1,9 @@
 -- Every frame of a reply can be built: a Provider that was asked in a direction that it uses meets none of `build`'s refusals.
-use Prim.Native.Nat.{ℕ, _≤_, _<_}
+use Prim.Native.Nat.{ℕ, _-_, _≤_, _<_}
 use mathlib.Core.Path.{_≡_, refl}
 use mathlib.Core.Bool.{Bool, true, false}
 use mathlib.Core.List.{List, [], _∷_, _++_, map}
+use native.Mathlib.Nat.{le-trans, min-le-right}
 use native.Mathlib.Omega.{arith}
 use lib.Dec.{leb}
 use lib.ListN.{length}
@@ -10,15 +11,16 @@ use borrow.Author.Tests.{leb-true, le-leb, eq-eqb}
 use Rattle.laws.specs.When.{when, _and_}
 use Rattle.lists.proofs.Parts.{Fit, fit-all}
 use Rattle.asdu.specs.Sizes.{within, sizesRight, headerLen, elementRoom, segmentLimit}
+use Rattle.asdu.specs.Elements.{losInRange}
 use Rattle.asdu.proofs.Range.{both}
 use Rattle.asdu.specs.declared.Nos.{Nos}
 use Rattle.asdu.specs.declared.AddressSizes.{AddressSizes}
-use Rattle.frame.specs.Frames.{receiverSide, ioaOf}
+use Rattle.frame.specs.Frames.{receiverSide, lastIoa}
 use Rattle.frame.specs.Ranges.{segmentInRange, valuesInRange}
 use Rattle.ft.specs.Directions.{usesFunction}
-use Rattle.ft.specs.Procedure.{settled, addressRight}
+use Rattle.ft.specs.Procedure.{settled, addressRight, addressed}
 use Rattle.ft.specs.Admission.{serves}
-use Rattle.ft.specs.Building.{headerOf, addressed, framed, built}
+use Rattle.ft.specs.Building.{headerOf, framed, built}
 use Rattle.ft.specs.declared.Role.{Role}
 use Rattle.ft.specs.declared.Role.the-variants.{Controlling, Controlled}
 use Rattle.ft.specs.declared.FileTransferProcedure.{FileTransferProcedure}
@@ -65,6 +67,11 @@ split : (p : FileTransferProcedure) → settled p ≡ true → rights p
 unfolding settled
 split p e = both (sizesRight (p .sizes)) (addressRight (p .sizes) (p .ca) (p .org)) e
 
+-- no segment has more than LOS can say
+pub limit-most : (z : AddressSizes) → segmentLimit z ≤ 240
+unfolding segmentLimit
+limit-most z = min-le-right (elementRoom z - 4) 240
+
 -- a segment of a station holds something, whatever its widths
 pub wide : (p : FileTransferProcedure) → settled p ≡ true → 0 < segmentLimit (p .sizes)
 wide p e = limit-wide (p .sizes) (split p e .0)
@@ -83,7 +90,7 @@ all-join p [] ys h k = k
 all-join p (x ∷ xs) ys h k = (h .0, all-join p xs ys (h .1) k)
 
 module _ (p : Provider) (file : List ℕ) (agreed : fileAgrees p file ≡ true) (served : serves (p .procedure) (p .procedure .role) false ≡ true) where
-  one-built : (x : Packet) → receiverSide (x .frame) ≡ false → ioaOf (x .frame) ≡ p .ioa → valuesInRange (p .procedure .sizes) (x .frame) (x .payload) ≡ true → Built (p .procedure) x
+  one-built : (x : Packet) → receiverSide (x .frame) ≡ false → lastIoa (x .frame) (x .payload) ≡ p .ioa → valuesInRange (p .procedure .sizes) (x .frame) (x .payload) ≡ true → Built (p .procedure) x
   unfolding built framed addressed settled when
   one-built x side object fits =
       let g = agrees p file agreed in
@@ -92,10 +99,15 @@ module _ (p : Provider) (file : List ℕ) (agreed : fileAgrees p file ≡ true) 
 
   module _ (nos : Nos) where
     segments-built : (os : List (List ℕ)) → Fit (limitOf p) os → AllBuilt (p .procedure) (map (segmentPacket p nos) os)
-    unfolding segmentInRange when
+    unfolding segmentInRange losInRange when
     segments-built [] fit = tt
     segments-built (o ∷ os) fit = (
-      one-built (segmentPacket p nos o) refl refl (simp (le-leb 1 (length o) (fit .0), eq-eqb (length o) (length o) refl, le-leb (length o) (limitOf p) (fit .1))),
+      one-built (segmentPacket p nos o) refl refl (simp (
+        le-leb 1 (length o) (fit .0),
+        le-leb (length o) 240 (le-trans (fit .1) (limit-most (p .procedure .sizes))),
+        eq-eqb (length o) (length o) refl,
+        le-leb (length o) (limitOf p) (fit .1),
+      )),
       segments-built os (fit .2),
     )
 

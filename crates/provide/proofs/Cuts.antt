@@ -3,7 +3,7 @@ use mathlib.Core.Path.{_≡_, ap}
 use mathlib.Core.Bool.{Bool, true, false}
 use mathlib.Core.List.{List, [], _∷_}
 use Prim.Native.Nat.{ℕ, zero, suc, _+_, _-_, _*_, _≤_, _<_, min}
-use native.Mathlib.Nat.{zero-min, suc-min-suc, add-sub-cancel-left, le-max-left, min-le-left, min-le-right, mul-le-mul, le-trans, lt-of-le-of-lt, lt-of-mul-lt-mul-right}
+use native.Mathlib.Nat.{zero-min, suc-min-suc, add-sub-cancel-left, le-max-left, min-le-left, mul-le-mul, le-trans, lt-of-le-of-lt, lt-of-mul-lt-mul-right}
 use native.Mathlib.Omega.{arith}
 use lib.Dec.{eqb, lit<}
 use lib.ListN.{length, take, drop, length-take, length-drop}
@@ -14,9 +14,7 @@ use Rattle.laws.specs.When.{when, _and_}
 use Rattle.laws.proofs.Decide.{whens}
 use Rattle.lists.specs.Parts.{divCeil}
 use Rattle.lists.proofs.Parts.{ceil-least}
-use Rattle.asdu.specs.Sizes.{segmentLimit, elementRoom}
 use Rattle.asdu.specs.declared.Nos.{Nos}
-use Rattle.asdu.specs.declared.AddressSizes.{AddressSizes}
 use Rattle.provide.specs.Sections.{sectionLength, sectionOctets, segmentOctets}
 use Rattle.provide.specs.Record.{fileAgrees}
 use Rattle.provide.specs.Replies.{octetsOf, limitOf, segmentCount}
@@ -26,6 +24,9 @@ use Rattle.provide.proofs.Building.{wide}
 
 pub product-fits : (k n : ℕ) → k ≤ 0xFFFFFFFF → n ≤ 0xFFFFFFFF → Fits w64 (k * n)
 product-fits k n p q = record { fits = lt-of-le-of-lt (mul-le-mul p q) (lit< tt) }
+
+pub product-most : (k n a b : ℕ) → k ≤ a → n ≤ b → k * n ≤ a * b
+product-most k n a b p q = mul-le-mul p q
 
 -- ---- lengths and counts
 
@@ -72,10 +73,6 @@ pub ceil-most : (a b : ℕ) → 0 < b → divCeil a b ≤ a
 ceil-most a (suc b) h =
     let l = ceil-least a (suc b) h in
     omega (arith, lt-of-mul-lt-mul-right (suc b) {m = divCeil a (suc b)} {n = a + 1} (omega arith))
-
-pub limit-most : (z : AddressSizes) → segmentLimit z ≤ 240
-unfolding segmentLimit
-limit-most z = min-le-right (elementRoom z - 4) 240
 
 pub segments-most : (p : Provider) (file : List ℕ) (nos : Nos) → 0 < limitOf p → segmentCount p file nos ≤ p .«section_len»
 unfolding segmentCount

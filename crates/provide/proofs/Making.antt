@@ -11,8 +11,7 @@ use Rattle.asdu.specs.Sizes.{sizesRight, maxIoa}
 use Rattle.asdu.proofs.Range.{both}
 use Rattle.asdu.specs.declared.Nof.{Nof}
 use Rattle.asdu.specs.declared.FtError.{FtError}
-use Rattle.ft.specs.Procedure.{settled, addressRight}
-use Rattle.ft.specs.Building.{addressed}
+use Rattle.ft.specs.Procedure.{settled, addressRight, addressed}
 use Rattle.ft.specs.declared.FileTransferProcedure.{FileTransferProcedure}
 use Rattle.provide.specs.Sections.{sectionLength}
 use Rattle.provide.specs.Record.{freshProvider, providerMade, fileAgrees}

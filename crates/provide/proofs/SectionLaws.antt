@@ -1,5 +1,5 @@
 -- A file's sections: at least one, at most 255, and together the file.
-use Prim.Native.Nat.{ℕ, suc, _-_, _*_, _≤_, _<_, max}
+use Prim.Native.Nat.{ℕ, suc, _+_, _-_, _*_, _≤_, _<_, max}
 use mathlib.Core.Path.{_≡_, _∙_}
 use mathlib.Core.Bool.{Bool, true, false}
 use mathlib.Core.List.{List, []}
@@ -7,8 +7,7 @@ use native.Mathlib.Omega.{arith}
 use native.Mathlib.Nat.{le-trans, mul-le-mul-right, lt-of-mul-lt-mul-right}
 use lib.Dec.{eqb, eqb·suc-zero}
 use lib.ListN.{length, take, drop, getD, length-take, length-drop}
-use lib.Seq.{take-all}
-use borrow.Author.Tests.{ne-eqb}
+use lib.Seq.{take-all, take-nil, drop-nil}
 use Rattle.laws.specs.When.{when}
 use Rattle.lists.specs.Parts.{divCeil, joined}
 use Rattle.lists.proofs.Parts.{ceil-enough, ceil-least, joined-parts, part-at, part-of-part}
@@ -50,14 +49,19 @@ pub section-named : (file : List ℕ) (j : ℕ) → j < sectionCount (length fil
 unfolding sections
 section-named file j h = rw (section-from (sectionLength (length file)) j file, part-at (sectionCount (length file)) (sectionLength (length file)) file j h)
 
--- a segment of section nos is the part of the file that begins there, of the segment's length
-pub segment-part : (size limit : ℕ) (file : List ℕ) (nos i : ℕ) → 1 ≤ nos
+-- a segment of section nos is the part of the file that begins there, of the segment's length; section 0 has none
+pub segment-part : (size limit : ℕ) (file : List ℕ) (nos i : ℕ)
     → segmentOctets limit (sectionOctets size file nos) i
     ≡ take (length (segmentOctets limit (sectionOctets size file nos) i)) (drop (segmentStart size limit nos i) file)
 unfolding sectionOctets segmentOctets segmentStart when
-segment-part size limit file nos i h =
-    let named : eqb nos 0 ≡ false = ne-eqb nos 0 (λ e. omega arith) in
-    simp named (part-of-part ((nos - 1) * size) size (i * limit) limit file)
+segment-part size limit file nos i = by-test (eqb nos 0)
+  where
+    cut : Bool → List ℕ
+    cut b = take limit (drop (i * limit) (when b [] (take size (drop ((nos - 1) * size) file))))
+
+    by-test : (b : Bool) → cut b ≡ take (length (cut b)) (drop ((nos - 1) * size + i * limit) file)
+    by-test true = simp (drop-nil, take-nil)
+    by-test false = part-of-part ((nos - 1) * size) size (i * limit) limit file
 
 -- no section is longer than its file
 pub section-within : (size : ℕ) (file : List ℕ) (nos : ℕ) → length (sectionOctets size file nos) ≤ length file

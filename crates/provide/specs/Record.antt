@@ -8,8 +8,7 @@ use Rattle.laws.specs.When.{unless, _and_}
 use Rattle.asdu.specs.Sizes.{sizesRight, maxIoa}
 use Rattle.asdu.specs.declared.Nof.{Nof}
 use Rattle.asdu.specs.declared.FtError.the-variants as E
-use Rattle.ft.specs.Procedure.{settled}
-use Rattle.ft.specs.Building.{addressed}
+use Rattle.ft.specs.Procedure.{settled, addressed}
 use Rattle.ft.specs.declared.FileTransferProcedure.{FileTransferProcedure}
 use Rattle.provide.specs.Sections.{sectionLength}
 use Rattle.provide.specs.declared.Provider.{Provider}

@@ -1,9 +1,9 @@
 -- The frames that a Provider sends: a reply as the list of them, and as a count with a frame for each index below it (document 01, The Provider's record).
-use Prim.Native.Nat.{ℕ, _+_}
+use Prim.Native.Nat.{ℕ, _+_, _-_}
 use mathlib.Core.Bool.{false}
 use mathlib.Core.List.{List, [], _∷_, _++_, map}
 use lib.Dec.{eqb, ltb}
-use lib.ListN.{length}
+use lib.ListN.{length, take, drop}
 use Rattle.laws.specs.When.{when, unless}
 use Rattle.lists.specs.Parts.{divCeil}
 use Rattle.asdu.specs.Sizes.{segmentLimit}
@@ -11,11 +11,11 @@ use Rattle.asdu.specs.declared.Nos.{Nos}
 use Rattle.asdu.specs.declared.FtError.the-variants as E
 use Rattle.frame.specs.declared.Frame.{Frame}
 use Rattle.frame.specs.declared.Frame.the-variants as F
-use Rattle.ft.specs.Checksum.{checksum}
+use Rattle.checksum.specs.Checksum.{checksum}
 use Rattle.ft.specs.Building.{built}
 use Rattle.ft.specs.declared.AsduResult.{AsduResult}
 use Rattle.ft.specs.declared.AsduResult.the-variants as A
-use Rattle.provide.specs.Sections.{sectionOctets, segments, segmentOctets}
+use Rattle.provide.specs.Sections.{sectionOctets, segments, segmentOctets, segmentStart}
 use Rattle.provide.specs.Record.{fileAgrees}
 use Rattle.provide.specs.declared.Provider.{Provider}
 use Rattle.provide.specs.declared.Reply.{Reply}
@@ -24,6 +24,9 @@ use Rattle.provide.specs.declared.CountResult.{CountResult}
 use Rattle.provide.specs.declared.CountResult.the-variants as C
 use Rattle.provide.specs.declared.FrameResult.{FrameResult}
 use Rattle.provide.specs.declared.FrameResult.the-variants.{Ok, Err}
+use Rattle.provide.specs.declared.Part.{Part}
+use Rattle.provide.specs.declared.PartResult.{PartResult}
+use Rattle.provide.specs.declared.PartResult.the-variants as Q
 
 -- ---- the frames
 
@@ -113,20 +116,40 @@ frameAt p file (FileClose nos) i = only (closeFrame p nos 1 file) i
 unfoldable pub replyFrame : Provider → List ℕ → Reply → ℕ → FrameResult
 replyFrame p file r i = unless (fileAgrees p file) (Err E.RecordMismatch) (frameAt p file r i)
 
--- what stands beside the frame of an index: the named part of the file, or nothing
-unfoldable pub sectionPayload : Provider → List ℕ → Nos → ℕ → List ℕ
-sectionPayload p file nos i = when (ltb i (segmentCount p file nos)) (segmentOf p file nos i) []
+-- ---- what stands beside a frame, by where it begins in the file and how long it is
 
-abbrev pub payloadAt : Provider → List ℕ → Reply → ℕ → List ℕ
-payloadAt p file Nothing i = []
-payloadAt p file FileReady i = []
-payloadAt p file (SectionReady nos) i = []
-payloadAt p file (Section nos) i = sectionPayload p file nos i
-payloadAt p file (FileClose nos) i = []
+abbrev pub noPart : Part
+noPart = record { start = 0; length = 0 }
 
--- nothing where record and file disagree
-unfoldable pub replyPayload : Provider → List ℕ → Reply → ℕ → List ℕ
-replyPayload p file r i = unless (fileAgrees p file) [] (payloadAt p file r i)
+-- beside the one frame of a reply nothing does
+unfoldable pub onlyPart : ℕ → PartResult
+onlyPart i = when (eqb i 0) (Q.Ok noPart) (Q.Err E.IndexOutOfRange)
+
+-- segment i of section `nos`; then its close
+unfoldable pub sectionPart : Provider → List ℕ → Nos → ℕ → PartResult
+sectionPart p file nos i =
+    when (ltb i (segmentCount p file nos))
+    (Q.Ok (record { start = segmentStart (p .«section_len») (limitOf p) (nos .value) i; length = length (segmentOf p file nos i) }))
+    (onlyPart (i - segmentCount p file nos))
+
+abbrev pub partAt : Provider → List ℕ → Reply → ℕ → PartResult
+partAt p file Nothing i = Q.Err E.IndexOutOfRange
+partAt p file FileReady i = onlyPart i
+partAt p file (SectionReady nos) i = onlyPart i
+partAt p file (Section nos) i = sectionPart p file nos i
+partAt p file (FileClose nos) i = onlyPart i
+
+-- 26 first; an index not below the count is 9
+unfoldable pub replyPayload : Provider → List ℕ → Reply → ℕ → PartResult
+replyPayload p file r i = unless (fileAgrees p file) (Q.Err E.RecordMismatch) (partAt p file r i)
+
+-- the octets of a part
+unfoldable pub partOctets : Part → List ℕ → List ℕ
+partOctets q file = take (q .length) (drop (q .start) file)
+
+abbrev pub payloadOf : List ℕ → PartResult → List ℕ
+payloadOf file (Q.Ok q) = partOctets q file
+payloadOf file (Q.Err e) = []
 
 -- ---- the offer without a select
 

@@ -7,8 +7,8 @@ use Rattle.asdu.specs.Sizes.{sizesRight, segmentLimit, headerLen}
 use Rattle.asdu.specs.declared.AddressSizes.{AddressSizes}
 use Rattle.asdu.specs.declared.Nof.{Nof}
 use Rattle.asdu.specs.declared.FtError.the-variants.{FileTooLong}
-use Rattle.ft.specs.Checksum.{checksum}
-use Rattle.ft.specs.Building.{addressed}
+use Rattle.checksum.specs.Checksum.{checksum}
+use Rattle.ft.specs.Procedure.{addressed}
 use Rattle.ft.specs.declared.FileTransferProcedure.{FileTransferProcedure}
 use Rattle.provide.specs.Sections.{sectionLength, sectionCount, sections}
 use Rattle.provide.specs.Record.{providerMade}

@@ -1,8 +1,10 @@
 // The frames that a Provider sends. A reply has a count, and each frame below it is made when it is
-// asked for by its index; a segment's payload is the named part of the lent file. Only the frame that
-// closes a section or the file reads the octets, to sum them.
+// asked for by its index; a segment's payload is the part of the lent file that two numbers name. Only
+// the frame that closes a section or the file reads the octets, to sum them.
 use crate::CountResult;
 use crate::FrameResult;
+use crate::Part;
+use crate::PartResult;
 use crate::Provider;
 use crate::Reply;
 use crate::sections;
@@ -16,12 +18,11 @@ use asdu::Srq;
 use asdu::sizes;
 use frame::Frame;
 use ft::AsduResult;
-use ft::checksum;
 ghost use mathlib.Core.Path.{_≡_};
 ghost use mathlib.Core.List.{[]};
 ghost use Prim.Native.Nat.{_+_, _≤_, _<_};
 ghost use lib.ListN.{length};
-ghost use Rattle.provide.specs.Replies.{fileReady, octetsOf, sectionReady, segmentFrame, closeFrame, limitOf, segmentCount, countOf, replyCount, only, segmentOf, sectionFrame, frameAt, replyFrame, sectionPayload, payloadAt, replyPayload, frameOf, announced};
+ghost use Rattle.provide.specs.Replies.{fileReady, octetsOf, sectionReady, segmentFrame, closeFrame, limitOf, segmentCount, countOf, replyCount, only, segmentOf, sectionFrame, frameAt, replyFrame, partOctets, onlyPart, sectionPart, partAt, replyPayload, frameOf, announced};
 
 // No octets.
 fn none(octets: &[u8]) -> &[u8]
@@ -38,6 +39,28 @@ fn only(frame: Frame, index: usize) -> FrameResult
         return FrameResult::Ok(frame);
     }
     FrameResult::Err(FtError::IndexOutOfRange)
+}
+
+// No octets beside the one frame of a reply, at index 0.
+fn only_part(index: usize) -> PartResult
+    ensures { λ r. ⌜ r ≡ onlyPart index ⌝ }
+{
+    if index == 0 {
+        return PartResult::Ok(Part {
+            start: 0,
+            length: 0,
+        });
+    }
+    PartResult::Err(FtError::IndexOutOfRange)
+}
+
+impl Part {
+    // The octets of this part of a file; what lies past its end is not there.
+    pub fn octets(self, file: &[u8]) -> &[u8]
+        ensures { λ r. ⌜ now r ≡ partOctets self (now (file .entry)) ⌝ }
+    {
+        sections::cut(file, self.start, self.length)
+    }
 }
 
 // The frame without its header.
@@ -222,26 +245,33 @@ impl Provider {
         }
     }
 
-    fn section_payload(self, file: &[u8], nos: Nos, index: usize) -> &[u8]
+    // A segment's part of the file, then none for the close.
+    fn section_part(self, file: &[u8], nos: Nos, index: usize) -> PartResult
         requires { ⌜ 0 < limitOf self ⌝ }
-        ensures { λ r. ⌜ now r ≡ sectionPayload self (now (file .entry)) nos index ⌝ }
+        ensures { λ r. ⌜ r ≡ sectionPart self (now (file .entry)) nos index ⌝ }
     {
-        if index < self.segment_count(file, nos) {
-            return self.segment(file, nos, index);
+        let count = self.segment_count(file, nos);
+        if index < count {
+            let payload = self.segment(file, nos, index);
+            let start = sections::segment_start(self.section_len, self.limit(), nos.value, index);
+            return PartResult::Ok(Part {
+                start,
+                length: payload.len(),
+            });
         }
-        none(file)
+        only_part(index - count)
     }
 
-    fn payload_at(self, file: &[u8], reply: Reply, index: usize) -> &[u8]
+    fn part_at(self, file: &[u8], reply: Reply, index: usize) -> PartResult
         requires { ⌜ 0 < limitOf self ⌝ }
-        ensures { λ r. ⌜ now r ≡ payloadAt self (now (file .entry)) reply index ⌝ }
+        ensures { λ r. ⌜ r ≡ partAt self (now (file .entry)) reply index ⌝ }
     {
         match reply {
-            Reply::Nothing => none(file),
-            Reply::FileReady => none(file),
-            Reply::SectionReady(_) => none(file),
-            Reply::Section(nos) => self.section_payload(file, nos, index),
-            Reply::FileClose(_) => none(file),
+            Reply::Nothing => PartResult::Err(FtError::IndexOutOfRange),
+            Reply::FileReady => only_part(index),
+            Reply::SectionReady(_) => only_part(index),
+            Reply::Section(nos) => self.section_part(file, nos, index),
+            Reply::FileClose(_) => only_part(index),
         }
     }
 
@@ -265,15 +295,15 @@ impl Provider {
         FrameResult::Err(FtError::RecordMismatch)
     }
 
-    // What stands beside the frame at an index: a segment's octets, the named part of the lent file;
-    // beside another frame, or where there is none, nothing.
-    pub fn reply_payload(self, file: &[u8], reply: Reply, index: usize) -> &[u8]
-        ensures { λ r. ⌜ now r ≡ replyPayload self (now (file .entry)) reply index ⌝ }
+    // What stands beside the frame at an index, by numbers: a segment's part of the lent file, and no
+    // octets beside another frame. 26, then 9 where the index is not below the count.
+    pub fn reply_payload(self, file: &[u8], reply: Reply, index: usize) -> PartResult
+        ensures { λ r. ⌜ r ≡ replyPayload self (now (file .entry)) reply index ⌝ }
     {
         if self.agrees(file) {
-            return self.payload_at(file, reply, index);
+            return self.part_at(file, reply, index);
         }
-        none(file)
+        PartResult::Err(FtError::RecordMismatch)
     }
 
     // The file ready that offers the file without a select: how the control direction's provider opens

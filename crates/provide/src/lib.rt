@@ -76,3 +76,14 @@ pub enum FrameResult {
     Ok(Frame),
     Err(FtError),
 }
+
+// A part of the lent file: where it begins, and how long it is.
+pub struct Part {
+    pub start: usize,
+    pub length: usize,
+}
+
+pub enum PartResult {
+    Ok(Part),
+    Err(FtError),
+}

@@ -12,20 +12,8 @@ ghost use mathlib.Core.Path.{_≡_};
 ghost use lib.Dec.{eqb, leb};
 ghost use lib.ListN.{length};
 ghost use Rattle.laws.specs.When.{_and_};
-ghost use Rattle.ft.specs.Building.{addressed};
 ghost use Rattle.provide.specs.Sections.{sectionLength};
 ghost use Rattle.provide.specs.Record.{freshProvider, providerMade, fileAgrees, ended, counted};
-
-// Whether a station may send with these settings about this object address.
-fn is_addressed(procedure: FileTransferProcedure, ioa: u32) -> bool
-    ensures { λ r. ⌜ r ≡ addressed (procedure .sizes) (procedure .ca) (procedure .org) ioa ⌝ }
-{
-    let sizes = procedure.sizes;
-    if procedure::is_own_address(sizes, procedure.ca, procedure.org) {
-        return ioa <= sizes.max_ioa();
-    }
-    false
-}
 
 // The record of a file of this length that nobody has asked for yet.
 fn fresh(procedure: FileTransferProcedure, ioa: u32, nof: Nof, length: u32) -> Provider
@@ -62,10 +50,11 @@ impl Provider {
     {
         let n = file.len();
         let longest = Lof::MAX as usize;
-        if !procedure.sizes.is_right() {
+        let sizes = procedure.sizes;
+        if !sizes.is_right() {
             return ProviderResult::Err(FtError::InvalidAddressSizes);
         }
-        if !is_addressed(procedure, ioa) {
+        if !procedure::is_addressed(sizes, procedure.ca, procedure.org, ioa) {
             return ProviderResult::Err(FtError::AddressOutOfRange);
         }
         if longest < n {

@@ -9,7 +9,6 @@ use asdu::Afq;
 use asdu::Cause;
 use asdu::FtError;
 use asdu::Header;
-use asdu::Nof;
 use asdu::Nos;
 use asdu::Scq;
 use asdu::UnknownField;
@@ -19,22 +18,10 @@ use frame::answer;
 use ft::Reaction;
 use ft::Received;
 ghost use mathlib.Core.Path.{_≡_};
-ghost use Rattle.frame.specs.Answers.{nofAgree};
-ghost use Rattle.frame.specs.declared.SomeNof.the-variants as N;
 ghost use Rattle.provide.specs.Record.{ended};
 ghost use Rattle.provide.specs.Requests.{stepped, replying, onSc, after, onAck, isOurs, onOurs, onRequest, onRequested, provideAdmitted, provide};
 ghost use Rattle.provide.specs.declared.Reply.the-variants.{Nothing};
 ghost use Rattle.provide.specs.declared.ProviderAnswer.the-variants.{Refused, Err};
-
-// Whether a frame that has a name of file names this one.
-fn names_file(name: SomeNof, nof: Nof) -> bool
-    ensures { λ r. ⌜ r ≡ nofAgree name (N.Some nof) ⌝ }
-{
-    match name {
-        SomeNof::Some(x) => x.value == nof.value,
-        SomeNof::None => true,
-    }
-}
 
 impl Provider {
     // The transfer goes on, with this to send.
@@ -77,7 +64,8 @@ impl Provider {
         }
     }
 
-    // A request, by the action of SCQ (7.2.6.30); one that asks for nothing ends the transfer.
+    // A request, by the action of SCQ (7.2.6.30). One that asks for neither file nor section ends the
+    // transfer: a deactivation, a deletion, and the call of a directory, which is not the Provider's.
     fn on_sc(self, nos: Nos, scq: Scq) -> ProviderStep
         ensures { λ r. ⌜ r ≡ onSc self nos scq ⌝ }
     {
@@ -121,7 +109,7 @@ impl Provider {
     {
         let nof = self.nof;
         if frame.ioa() == self.ioa {
-            return names_file(answer::nof_of(frame), nof);
+            return answer::nof_agree(answer::nof_of(frame), SomeNof::Some(nof));
         }
         false
     }

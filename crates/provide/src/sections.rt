@@ -2,20 +2,15 @@
 // can carry. A part is named by numbers and handed out of the lent octets; none is copied.
 use crate::DEFAULT_SECTION_LEN;
 use asdu::Nos;
+use counts::least;
 ghost use mathlib.Core.Path.{_≡_};
-ghost use Prim.Native.Nat.{_+_, _*_, _≤_, _<_, min};
+ghost use Prim.Native.Nat.{_+_, _*_, _≤_, _<_};
 ghost use lib.ListN.{take, drop};
 ghost use Rattle.lists.specs.Parts.{divCeil};
-ghost use Rattle.provide.specs.Sections.{sectionLength, sectionCount, sectionOctets};
+ghost use Rattle.provide.specs.Sections.{sectionLength, sectionCount, sectionOctets, segmentStart};
 
 // The most sections that a NOS can name.
 const MAX_SECTIONS: usize = 255;
-
-fn least(a: usize, b: usize) -> usize
-    ensures { λ r. ⌜ r ≡ min a b ⌝ }
-{
-    if a < b { a } else { b }
-}
 
 // How many parts of a size a length has, the last perhaps shorter.
 pub(crate) fn div_ceil(length: usize, size: usize) -> usize
@@ -48,15 +43,34 @@ pub(crate) fn section_count(length: u32) -> usize
     count
 }
 
+// The octets from a place on, of this length; what lies past the end is not there.
+pub(crate) fn cut(octets: &[u8], at: usize, length: usize) -> &[u8]
+    ensures { λ r. ⌜ now r ≡ take length (drop at (now (octets .entry))) ⌝ }
+{
+    let count = octets.len();
+    let start = least(at, count);
+    let end = start + least(length, count - start);
+    &octets[start..end]
+}
+
+// Where segment `index` of section `name` begins in the file.
+pub(crate) fn segment_start(size: u32, limit: usize, name: u8, index: usize) -> usize
+    requires { ⌜ (limit ≤ 240) × (index ≤ 0xFFFFFFFF) ⌝ }
+    ensures { λ r. ⌜ r ≡ segmentStart size limit name index ⌝ }
+{
+    let before = index * limit;
+    if name == 0 {
+        return before;
+    }
+    (name as usize - 1) * size as usize + before
+}
+
 // The part of this size at an index from 0; empty past the end.
 pub(crate) fn part(octets: &[u8], size: usize, index: usize) -> &[u8]
     requires { ⌜ (size ≤ 0xFFFFFFFF) × (index ≤ 0xFFFFFFFF) ⌝ }
     ensures { λ r. ⌜ now r ≡ take size (drop (index * size) (now (octets .entry))) ⌝ }
 {
-    let length = octets.len();
-    let start = least(index * size, length);
-    let end = start + least(size, length - start);
-    &octets[start..end]
+    cut(octets, index * size, size)
 }
 
 // Section `nos` where a section has `size` octets; 0 and any past the end are empty.

@@ -8,8 +8,7 @@ use Rattle.asdu.specs.Sizes.{sizesRight, maxIoa}
 use Rattle.asdu.proofs.Range.{both}
 use Rattle.asdu.specs.declared.Nof.{Nof}
 use Rattle.asdu.specs.declared.FtError.{FtError}
-use Rattle.ft.specs.Procedure.{settled, addressRight}
-use Rattle.ft.specs.Building.{addressed}
+use Rattle.ft.specs.Procedure.{settled, addressRight, addressed}
 use Rattle.ft.specs.declared.FileTransferProcedure.{FileTransferProcedure}
 use Rattle.receive.specs.Record.{freshReceiver, receiverMade}
 use Rattle.receive.specs.declared.Receiver.{Receiver}

@@ -12,9 +12,9 @@ use Rattle.asdu.specs.Elements.{scqInRange}
 use Rattle.asdu.proofs.Range.{both}
 use Rattle.asdu.specs.declared.FtError.the-variants as E
 use Rattle.ft.specs.Directions.{usesFunction}
-use Rattle.ft.specs.Procedure.{settled, addressRight}
+use Rattle.ft.specs.Procedure.{settled, addressRight, addressed}
 use Rattle.ft.specs.Admission.{serves}
-use Rattle.ft.specs.Building.{headerOf, addressed, framed, built}
+use Rattle.ft.specs.Building.{headerOf, framed, built}
 use Rattle.ft.specs.declared.Asdu.{Asdu}
 use Rattle.ft.specs.declared.AsduResult.the-variants as A
 use Rattle.receive.specs.Record.{storeAgrees, sending, opening, select, stepped, startedWith, started}

@@ -11,8 +11,8 @@ use Rattle.asdu.specs.declared.Nos.{Nos}
 use Rattle.asdu.specs.declared.FtError.the-variants as E
 use Rattle.frame.specs.declared.Frame.{Frame}
 use Rattle.frame.specs.declared.Frame.the-variants as F
-use Rattle.ft.specs.Procedure.{settled}
-use Rattle.ft.specs.Building.{addressed, built}
+use Rattle.ft.specs.Procedure.{settled, addressed}
+use Rattle.ft.specs.Building.{built}
 use Rattle.ft.specs.declared.FileTransferProcedure.{FileTransferProcedure}
 use Rattle.ft.specs.declared.AsduResult.{AsduResult}
 use Rattle.ft.specs.declared.AsduResult.the-variants as A

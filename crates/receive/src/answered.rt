@@ -17,14 +17,13 @@ use asdu::UnknownField;
 use frame::Frame;
 use ft::Reaction;
 use ft::Received;
-use ft::checksum;
 ghost use mathlib.Core.Path.{_≡_};
 ghost use mathlib.Core.List.{List};
 ghost use Prim.Native.Nat.{ℕ, _+_, _-_, _≤_, _<_, _^_};
 ghost use lib.Dec.{eqb};
 ghost use lib.ListN.{length, take, drop};
 ghost use Rattle.laws.specs.When.{_or_};
-ghost use Rattle.ft.specs.Checksum.{checksum};
+ghost use Rattle.checksum.specs.Checksum.{checksum};
 ghost use Rattle.receive.specs.Record.{keptOctets, stagedOctets, stepped};
 ghost use Rattle.receive.specs.Answers.{onFileReady, onSectionReady, onSectionClose, closing, onFileClose, onClose, onSegment, onAnswered, onReceived, receiveAdmitted, receive};
 

@@ -15,19 +15,7 @@ use ft::AsduResult;
 use ft::FileTransferProcedure;
 use ft::procedure;
 ghost use mathlib.Core.Path.{_≡_};
-ghost use Rattle.ft.specs.Building.{addressed};
 ghost use Rattle.receive.specs.Record.{freshReceiver, receiverMade, storeAgrees, receivedOctets, request, acknowledge, awaited, startedWith, started};
-
-// Whether the own addresses and the object address are within the station's widths.
-fn is_addressed(procedure: FileTransferProcedure, ioa: u32) -> bool
-    ensures { λ r. ⌜ r ≡ addressed (procedure .sizes) (procedure .ca) (procedure .org) ioa ⌝ }
-{
-    let sizes = procedure.sizes;
-    if procedure::is_own_address(sizes, procedure.ca, procedure.org) {
-        return ioa <= sizes.max_ioa();
-    }
-    false
-}
 
 impl Receiver {
     // The record before anything is sent or has arrived.
@@ -55,7 +43,7 @@ impl Receiver {
         if !sizes.is_right() {
             return ReceiverResult::Err(FtError::InvalidAddressSizes);
         }
-        if !is_addressed(procedure, ioa) {
+        if !procedure::is_addressed(sizes, procedure.ca, procedure.org, ioa) {
             return ReceiverResult::Err(FtError::AddressOutOfRange);
         }
         ReceiverResult::Ok(Receiver::fresh(procedure, ioa, nof))

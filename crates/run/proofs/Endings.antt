@@ -12,8 +12,7 @@ use Rattle.laws.specs.When.{when}
 use Rattle.asdu.specs.Sizes.{sizesRight, maxCommonAddress, segmentLimit}
 use Rattle.asdu.proofs.Range.{both}
 use Rattle.ft.specs.Directions.{otherRole}
-use Rattle.ft.specs.Procedure.{addressRight, settled}
-use Rattle.ft.specs.Building.{addressed}
+use Rattle.ft.specs.Procedure.{addressRight, settled, addressed}
 use Rattle.ft.specs.Admission.{serves}
 use Rattle.ft.specs.declared.Role.{Role}
 use Rattle.ft.specs.declared.Role.the-variants.{Controlling, Controlled}

@@ -17,7 +17,7 @@ use Rattle.ft.specs.Building.{headerOf}
 use Rattle.ft.specs.declared.Received.the-variants as D
 use Rattle.ft.specs.declared.FileTransferProcedure.{FileTransferProcedure}
 use Rattle.provide.specs.Record.{fileAgrees}
-use Rattle.provide.specs.Replies.{Packet, bare, fileReady, segmentFrame, closeFrame, octetsOf, limitOf, segmentCount, segmentOf, replies, sectionFrame, replyFrame, replyPayload}
+use Rattle.provide.specs.Replies.{Packet, bare, fileReady, segmentFrame, closeFrame, octetsOf, limitOf, segmentCount, segmentOf, replies, sectionFrame, replyFrame, replyPayload, payloadOf}
 use Rattle.provide.specs.Sections.{segments}
 use Rattle.provide.specs.declared.Provider.{Provider}
 use Rattle.provide.specs.Requests.{provide}
@@ -259,9 +259,8 @@ module _ (file damage : List ℕ) (ca count : ℕ) where
         frame-is : replyFrame p file reply i ≡ F.Ok (x .frame)
         frame-is = replies-agree p file reply (fits .agrees) .frame i (none p file) h
 
-        payload-is : replyPayload p file reply i ≡ x .payload
-        unfolding replyPayload when
-        payload-is = simp (fits .agrees) (replies-agree p file reply (fits .agrees) .payload i (none p file) h)
+        payload-is : payloadOf file (replyPayload p file reply i) ≡ x .payload
+        payload-is = replies-agree p file reply (fits .agrees) .payload i (none p file) h
 
         first-is : queueOf p file r (Q.Provider reply i d) ≡ passingAt d i x ∷ queueOf p file r rest
         first-is = told-at d i (replies p file reply) (none p file) h ∙ rw (add-one i)

@@ -11,8 +11,8 @@ use Rattle.laws.specs.When.{when}
 use Rattle.asdu.specs.Sizes.{sizesRight, maxIoa}
 use Rattle.asdu.specs.declared.FtError.the-variants as E
 use Rattle.ft.specs.Directions.{otherRole}
-use Rattle.ft.specs.Procedure.{addressRight}
-use Rattle.ft.specs.Building.{addressed, built}
+use Rattle.ft.specs.Procedure.{addressRight, addressed}
+use Rattle.ft.specs.Building.{built}
 use Rattle.ft.specs.declared.FileTransferProcedure.{FileTransferProcedure}
 use Rattle.ft.specs.declared.AsduResult.{AsduResult}
 use Rattle.ft.specs.declared.AsduResult.the-variants as A

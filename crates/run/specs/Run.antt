@@ -8,7 +8,8 @@ use Rattle.asdu.specs.Sizes.{sizesRight, segmentLimit}
 use Rattle.asdu.specs.declared.FtError.{FtError}
 use Rattle.asdu.specs.declared.FtError.the-variants as E
 use Rattle.ft.specs.Directions.{otherRole}
-use Rattle.ft.specs.Building.{addressed, headerOf}
+use Rattle.ft.specs.Procedure.{addressed}
+use Rattle.ft.specs.Building.{headerOf}
 use Rattle.provide.specs.Sections.{sectionLength, sectionCount, sections}
 use Rattle.provide.specs.Record.{freshProvider}
 use Rattle.receive.specs.Record.{freshReceiver}

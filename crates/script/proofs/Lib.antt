@@ -3,6 +3,5 @@ pub mod Decimals
 pub mod NumberLaws
 pub mod ListLaws
 pub mod Stages
-pub mod Writing
 pub mod Meaning
 pub mod Worked

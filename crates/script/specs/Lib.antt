@@ -2,4 +2,3 @@ pub mod Decimal
 pub mod Script
 pub mod Reader
 pub mod Answers
-pub mod LineText

@@ -1,7 +1,5 @@
-// A transfer script's text (document 01, A transfer script): reading one, and writing a line of what
-// the transfer prints.
-pub mod line; // one line of output
-pub mod read; // a script
+// A transfer script's text (document 01, A transfer script), and reading one.
+pub mod read; // from the text to its numbers and octets
 
 use asdu::FtError;
 use asdu::Nof;

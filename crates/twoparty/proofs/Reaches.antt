@@ -3,46 +3,63 @@ use Prim.Native.Nat.{ℕ, _≤_}
 use mathlib.Core.Path.{_≡_, refl}
 use mathlib.Core.Bool.{Bool, true, false}
 use mathlib.Core.List.{List, []}
-use native.Mathlib.Nat.{le-trans}
+use native.Mathlib.Nat.{le-trans, min-le-left}
 use native.Mathlib.Omega.{arith}
 use lib.Dec.{eqb, ltb}
-use lib.ListN.{length}
+use lib.ListN.{length, length-take}
 use borrow.Author.Tests.{eqb-true, ltb-true, leb-true}
 use Rattle.laws.specs.When.{when}
 use Rattle.asdu.specs.declared.Nos.{Nos}
 use Rattle.asdu.specs.declared.FtError.{FtError}
 use Rattle.frame.specs.declared.Frame.{Frame}
 use Rattle.provide.specs.Record.{fileAgrees}
-use Rattle.provide.specs.Replies.{octetsOf, limitOf, segmentCount, only, sectionFrame, frameAt, replyFrame, sectionPayload, payloadAt, replyPayload}
+use Rattle.provide.specs.Replies.{octetsOf, limitOf, segmentCount, only, sectionFrame, frameAt, replyFrame, onlyPart, sectionPart, partAt, replyPayload, partOctets, payloadOf}
 use Rattle.provide.specs.declared.Provider.{Provider}
 use Rattle.provide.specs.declared.Reply.{Reply}
 use Rattle.provide.specs.declared.Reply.the-variants.{Nothing, FileReady, SectionReady, Section, FileClose}
 use Rattle.provide.specs.declared.FrameResult.{FrameResult}
 use Rattle.provide.specs.declared.FrameResult.the-variants.{Ok, Err}
+use Rattle.provide.specs.declared.Part.{Part}
+use Rattle.provide.specs.declared.PartResult.{PartResult}
+use Rattle.provide.specs.declared.PartResult.the-variants as Q
 use Rattle.provide.proofs.Making.{agrees}
 use Rattle.provide.proofs.SectionLaws.{section-within}
-use Rattle.provide.proofs.Cuts.{segment-most, ceil-most, limit-most, agreed-limit}
+use Rattle.provide.proofs.Building.{limit-most}
+use Rattle.provide.proofs.Cuts.{segment-most, ceil-most, agreed-limit}
 
 -- ---- payloads
 
-either-short : (b : Bool) (x y : List ℕ) → length x ≤ 240 → length y ≤ 240 → length (when b x y) ≤ 240
-unfolding when
-either-short true x y h k = h
-either-short false x y h k = k
-
 module _ (p : Provider) (file : List ℕ) where
-  payload-at-short : (r : Reply) (i : ℕ) → length (payloadAt p file r i) ≤ 240
-  unfolding sectionPayload
-  payload-at-short Nothing i = omega arith
-  payload-at-short FileReady i = omega arith
-  payload-at-short (SectionReady nos) i = omega arith
-  payload-at-short (Section nos) i =
-      either-short _ _ [] (le-trans (segment-most (limitOf p) (octetsOf p file nos) i) (limit-most (p .procedure .sizes))) (omega arith)
-  payload-at-short (FileClose nos) i = omega arith
+  abbrev Short : PartResult → Type 0
+  Short q = length (payloadOf file q) ≤ 240
 
-  pub payload-short : (r : Reply) (i : ℕ) → length (replyPayload p file r i) ≤ 240
+  either-short : (b : Bool) (x y : PartResult) → Short x → Short y → Short (when b x y)
+  unfolding when
+  either-short true x y h k = h
+  either-short false x y h k = k
+
+  only-short : (i : ℕ) → Short (onlyPart i)
+  unfolding onlyPart partOctets
+  only-short i = either-short (eqb i 0) _ (Q.Err _) (omega arith) (omega arith)
+
+  -- no part is longer than its length
+  part-most : (q : Part) → length (partOctets q file) ≤ q .length
+  unfolding partOctets
+  part-most q = simp length-take (min-le-left (q .length) _)
+
+  part-at-short : (r : Reply) (i : ℕ) → Short (partAt p file r i)
+  unfolding sectionPart
+  part-at-short Nothing i = omega arith
+  part-at-short FileReady i = only-short i
+  part-at-short (SectionReady nos) i = only-short i
+  part-at-short (Section nos) i =
+      either-short (ltb i (segmentCount p file nos)) _ _
+      (le-trans (part-most _) (le-trans (segment-most (limitOf p) (octetsOf p file nos) i) (limit-most (p .procedure .sizes)))) (only-short _)
+  part-at-short (FileClose nos) i = only-short i
+
+  pub payload-short : (r : Reply) (i : ℕ) → Short (replyPayload p file r i)
   unfolding replyPayload
-  payload-short r i = either-short (fileAgrees p file) _ [] (payload-at-short r i) (omega arith)
+  payload-short r i = either-short (fileAgrees p file) _ (Q.Err _) (part-at-short r i) (omega arith)
 
 -- ---- indices
 

@@ -17,7 +17,7 @@ use Rattle.ft.specs.declared.Role.the-variants.{Controlling, Controlled}
 use Rattle.ft.specs.declared.Selection.{Selection}
 use Rattle.ft.specs.declared.FileTransferProcedure.{FileTransferProcedure}
 use Rattle.provide.specs.Record.{providerMade, fileAgrees}
-use Rattle.provide.specs.Replies.{replyFrame, replyPayload}
+use Rattle.provide.specs.Replies.{replyFrame, replyPayload, payloadOf}
 use Rattle.provide.specs.Requests.{provide}
 use Rattle.provide.specs.declared.Provider.{Provider}
 use Rattle.provide.specs.declared.ProviderStep.{ProviderStep}
@@ -154,7 +154,7 @@ afterReceiver t rest o = record { party = heard t rest (o .step); store = o .sto
 abbrev pub toReceiver : TwoParty → List ℕ → List ℕ → Reply → ℕ → Bool → FrameResult → Moved
 toReceiver t file store reply i damaged (F.Ok f) =
     afterReceiver t (Q.Provider reply (i + 1) damaged)
-    (receive (t .receiver) store (headerBy (t .provider .procedure) f) U.Nothing (D.Frame f) (arriving damaged i (replyPayload (t .provider) file reply i)))
+    (receive (t .receiver) store (headerBy (t .provider .procedure) f) U.Nothing (D.Frame f) (arriving damaged i (payloadOf file (replyPayload (t .provider) file reply i))))
 toReceiver t file store reply i damaged (F.Err e) = still t store
 
 -- the queue's first frame passes; an empty queue stays

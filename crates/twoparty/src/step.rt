@@ -14,6 +14,8 @@ use ft::FileTransferProcedure;
 use ft::Received;
 use ft::build;
 use provide::FrameResult;
+use provide::PartResult;
+use provide::Provider;
 use provide::ProviderAnswer;
 use provide::ProviderStep;
 use provide::Reply;
@@ -26,7 +28,7 @@ ghost use lib.ListN.{length};
 ghost use Rattle.laws.specs.When.{when};
 ghost use Rattle.asdu.specs.declared.UnknownField.the-variants as U;
 ghost use Rattle.ft.specs.declared.Received.the-variants as D;
-ghost use Rattle.provide.specs.Replies.{replyFrame};
+ghost use Rattle.provide.specs.Replies.{replyFrame, replyPayload, payloadOf};
 ghost use Rattle.provide.specs.declared.FrameResult.the-variants as F;
 ghost use Rattle.receive.specs.Answers.{receive};
 ghost use Rattle.exchange.specs.Damaging.{raised};
@@ -94,6 +96,16 @@ fn from_reply(found: FrameResult) -> Passing
             frame,
         },
         FrameResult::Err(_) => Passing::Nothing,
+    }
+}
+
+// What stands beside the frame at an index of the Provider's reply.
+fn payload_of(provider: Provider, file: &[u8], reply: Reply, index: usize) -> &[u8]
+    ensures { λ r. ⌜ now r ≡ payloadOf (now (file .entry)) (replyPayload provider (now (file .entry)) reply index) ⌝ }
+{
+    match provider.reply_payload(file, reply, index) {
+        PartResult::Ok(part) => part.octets(file),
+        PartResult::Err(_) => &file[0..0],
     }
 }
 
@@ -227,7 +239,7 @@ impl TwoParty {
         let provider = self.provider;
         let receiver = self.receiver;
         let procedure = provider.procedure;
-        let payload = provider.reply_payload(file, reply, next);
+        let payload = payload_of(provider, file, reply, next);
         let header = header_by(procedure, frame);
         let hit = noise::is_hit(damaged, next);
         let step = hand_over(receiver, store, header, frame, payload, hit);

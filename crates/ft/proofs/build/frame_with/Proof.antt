@@ -10,22 +10,33 @@ frame-with-spec =
     tie.close
     (tie.spec
     (λ c κs. search needs)
-    (λ c. simp (whens, nay-by-not (c .before .is-in-range .ensures) (c .if1 .taken)))
-    (λ c κs. search needs)
+    (λ c. simp (whens, nay-by-not (c .before .is-right .ensures) (c .if1 .taken)))
     (λ c κs. search needs)
     (λ c.
     simp (
       whens,
-      nay-by-not (c .before .is-addressed .ensures) (c .if2 .taken),
-      yes-by-not (c .before .before .before .before .is-in-range .ensures) (c .before .before .before .if1 .left),
-      ← (c .before .before .ioa .ensures),
+      nay-by-not (c .before .is-in-range .ensures) (c .if2 .taken),
+      yes-by-not (c .before .before .before .is-right .ensures) (c .before .before .if1 .left),
+    ))
+    (λ c κs. search needs)
+    (λ c κs. search needs)
+    (λ c.
+    let r = c .before .before .before in
+    simp (
+      whens,
+      nay-by-not (c .before .is-addressed .ensures) (c .if3 .taken),
+      yes-by-not (r .before .is-in-range .ensures) (r .if2 .left),
+      yes-by-not (r .before .before .before .is-right .ensures) (r .before .before .if1 .left),
+      ← (c .before .before .last-ioa .ensures),
     ))
     (λ c κs. search needs)
     (λ c.
+    let r = c .before .before .before .before in
     simp (
       whens,
-      yes-by-not (c .before .before .is-addressed .ensures) (c .before .if2 .left),
-      yes-by-not (c .before .before .before .before .before .is-in-range .ensures) (c .before .before .before .before .if1 .left),
+      yes-by-not (c .before .before .is-addressed .ensures) (c .before .if3 .left),
+      yes-by-not (r .before .is-in-range .ensures) (r .if2 .left),
+      yes-by-not (r .before .before .before .is-right .ensures) (r .before .before .if1 .left),
       ← (c .header-of .ensures),
-      ← (c .before .before .before .ioa .ensures),
+      ← (c .before .before .before .last-ioa .ensures),
     )))

@@ -17,7 +17,7 @@ is-ours-spec =
     simp (
       whens,
       eq-eqb _ _ (c .before .before .if1 .taken),
-      ← (c .names-file .ensures),
+      ← (c .nof-agree .ensures),
       ← (c .before .nof-of .ensures),
       ← (c .before .before .before .before .ioa .ensures),
     ))

@@ -15,6 +15,5 @@ reply-payload-spec =
     (λ c κs.
     let a = c .before .before .before .args in
     agreed-limit (a .self) (now (a .file)) (yes (c .before .agrees .ensures) (c .if1 .taken)))
-    (λ c. simp (whens, yes (c .before .before .agrees .ensures) (c .before .if1 .taken), ← (c .payload-at .ensures)))
-    (λ c κs. search needs)
-    (λ c. simp (whens, nay (c .before .before .agrees .ensures) (c .before .if1 .left), ← (c .none .ensures))))
+    (λ c. simp (whens, yes (c .before .before .agrees .ensures) (c .before .if1 .taken), ← (c .part-at .ensures)))
+    (λ c. simp (whens, nay (c .before .agrees .ensures) (c .if1 .left))))

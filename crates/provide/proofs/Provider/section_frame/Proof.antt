@@ -5,7 +5,8 @@ use mathlib.Core.Path.{ap}
 use denote.Ref.{now}
 use lib.ListN.{length}
 use Rattle.provide.specs.Replies.{octetsOf, limitOf, sectionFrame}
-use Rattle.provide.proofs.Cuts.{segment-most, segments-most, limit-most}
+use Rattle.provide.proofs.Building.{limit-most}
+use Rattle.provide.proofs.Cuts.{segment-most, segments-most}
 use Rattle.provide.proofs.Provider.section_frame.Statement.{statement}
 use Rattle.provide.proofs.Provider.section_frame.Tie as tie
 

@@ -1,7 +1,7 @@
 use borrow.Author.Needs.{needs}
 use native.Mathlib.Omega.{arith}
 use Rattle.provide.specs.Sections.{segmentOctets}
-use Rattle.provide.proofs.Cuts.{limit-most}
+use Rattle.provide.proofs.Building.{limit-most}
 use Rattle.provide.proofs.Provider.segment.Statement.{statement}
 use Rattle.provide.proofs.Provider.segment.Tie as tie
 

@@ -4,7 +4,8 @@ use mathlib.Core.Path.{ap}
 use native.Mathlib.Omega.{arith}
 use denote.Ref.{now}
 use lib.ListN.{length}
-use Rattle.provide.proofs.Cuts.{section-most, limit-most}
+use Rattle.provide.proofs.Building.{limit-most}
+use Rattle.provide.proofs.Cuts.{section-most}
 use Rattle.provide.proofs.Provider.segment_count.Statement.{statement}
 use Rattle.provide.proofs.Provider.segment_count.Tie as tie
 

@@ -1,6 +1,6 @@
 use borrow.Author.Needs.{needs}
 use native.Mathlib.Omega.{arith}
-use Rattle.provide.proofs.Cuts.{product-fits, part-named}
+use Rattle.provide.proofs.Cuts.{product-fits}
 use Rattle.provide.proofs.sections.part.Statement.{statement}
 use Rattle.provide.proofs.sections.part.Tie as tie
 
@@ -10,10 +10,4 @@ part-spec =
     (tie.spec
     (λ c. product-fits (c .before .args .index) (c .before .args .size) (omega arith) (omega arith))
     (λ c κs. search needs)
-    (λ c. search needs)
-    (λ c κs. search needs)
-    (λ c. search needs)
-    (λ c. search needs)
-    (λ c. search needs)
-    (λ c. search needs)
-    (λ c. simp (c .before .least2 .ensures, c .before .before .least .ensures) (simp part-named)))
+    (λ c. search needs))

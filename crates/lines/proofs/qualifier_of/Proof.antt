@@ -1,0 +1,28 @@
+use borrow.Author.Needs.{needs}
+use Rattle.lines.proofs.qualifier_of.Statement.{statement}
+use Rattle.lines.proofs.qualifier_of.Tie as tie
+
+pub qualifier-of-spec : {M : Type 1} → statement M
+qualifier-of-spec =
+    tie.close
+    (tie.spec
+    (λ c. search needs)
+    (λ c. search needs)
+    (λ c. search needs)
+    (λ c. search needs)
+    (λ c. search needs)
+    (λ c. search needs)
+    (λ c. search needs)
+    (λ c. search needs)
+    (λ c. search needs)
+    (λ c. search needs)
+    (λ c. search needs)
+    (λ c. search needs)
+    (λ c. simp (c .before .frame .given .1))
+    (λ c. simp (c .before .frame2 .given .1))
+    (λ c. simp (c .before .before .frame3 .given .1))
+    (λ c. simp (c .before .before .frame4 .given .1))
+    (λ c. simp (c .before .before .frame5 .given .1))
+    (λ c. simp (c .before .before .frame6 .given .1))
+    (λ c. search needs)
+    (λ c. search needs))

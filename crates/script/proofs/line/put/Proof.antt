@@ -1,8 +1,0 @@
-use mathlib.Core.Path.{refl}
-use borrow.Author.Needs.{needs}
-use Rattle.script.proofs.Writing.{written-one}
-use Rattle.script.proofs.line.put.Statement.{statement}
-use Rattle.script.proofs.line.put.Tie as tie
-
-pub put-spec : {M : Type 1} → statement M
-put-spec = tie.close (tie.spec (λ c. search needs) (λ c. search needs) (λ c. search needs) (λ c. record { end = refl; text = written-one _ _ _ (c .pre) }))
