@@ -1,4 +1,5 @@
 pub mod Hearing
+pub mod Asking
 pub mod Steps
 pub mod Sendings
 pub mod Sections

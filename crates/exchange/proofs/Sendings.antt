@@ -35,9 +35,10 @@ use Rattle.receive.specs.declared.Sent.{Sent}
 use Rattle.receive.proofs.Facts.{section-accepted, section-dropped}
 use Rattle.exchange.specs.Exchange.{Fate, lost, arrives, Passing, Noise, flown, payloads, nextSending, sendingsLeft}
 use Rattle.exchange.specs.Transfer.{Transfer, Sending, arrived, Damaged, AllDamaged}
-use Rattle.exchange.specs.Order.{Meets}
+use Rattle.exchange.specs.Order.{Meets, sendingsBefore}
 use Rattle.exchange.proofs.Radio.{payloads-behind}
 use Rattle.exchange.proofs.Hearing.{P, R}
+use Rattle.exchange.proofs.Asking.{asks-own}
 use Rattle.exchange.proofs.Steps.{Adds, Ends, Ex, sc, ack, asking, ask, tell, asked-ack, takes, loses, gains}
 
 -- no more arrives than was sent
@@ -79,7 +80,7 @@ module _ (m : Transfer) where
     Pass os fs =
         (sec rest : List ℕ) (t : List Passing) (v : ReceiverAnswer)
         → Fit limit os → Sending os fs → length (joined os) ≤ length rest
-        → ((t′ : List Passing) (v′ : ReceiverAnswer) → Adds t t′ (length os) 0
+        → ((t′ : List Passing) (v′ : ReceiverAnswer) → Adds (nos .value) t t′ (length os) 0 0
         → Ends m (Ex m (tell m c ∷ []) s l acc (sec ++ arrived fs) (drop (length (arrived fs)) rest) radio t′ u v′))
         → Ends m (Ex m (flown fs (behind nos os c)) s l acc sec rest radio t u v)
 
@@ -98,14 +99,14 @@ module _ (m : Transfer) where
     one-lost : (o : List ℕ) (os : List (List ℕ)) (fs : List Fate) → Pass os fs → Pass (o ∷ os) (lost ∷ fs)
     unfolding Pass when
     one-lost o os fs others sec rest t v fit hit fits k =
-        loses m s l acc sec rest radio t u v nos o _
+        loses m (nos .value) s l acc sec rest radio t u v nos o _
         (λ t′ d. others sec rest t′ v (fit .2) hit (omega (arith, simp length-append at fits)) (λ t″ v′ d′. k t″ v′ (omega arith)))
 
     one-arrives : (o x : List ℕ) (os : List (List ℕ)) (fs : List Fate) → Pass os fs → Pass (o ∷ os) (arrives x ∷ fs)
     unfolding Pass when
     one-arrives o x os fs others sec rest t v fit hit fits k =
         let whole : length o + length (joined os) ≤ length rest = simp length-append at fits in
-        gains m s l acc sec rest radio t u v nos o x _ (fit .0) (fit .1) (hit .0) (omega arith) (heard .segment _)
+        gains m (nos .value) s l acc sec rest radio t u v nos o x _ (fit .0) (fit .1) (hit .0) (omega arith) (heard .segment _)
         (λ t′ d. others (sec ++ x) (drop (length x) rest) t′ RA.Running (fit .2) (hit .1) (simp length-drop (omega (arith, hit .0)))
         (λ t″ v′ d′. rw (append-assoc sec x (arrived fs), drop-drop, ← (length-append x (arrived fs))) (k t″ v′ (omega arith))))
 
@@ -127,7 +128,7 @@ module _ (m : Transfer) where
   module _ (wide : 0 < limit) (l : Length) (nos : Nos) (acc o : List ℕ) where
     pub sending-passes : (radio : List Noise) (s : Sent) (fs : List Fate) (rest : List ℕ) (t : List Passing) (u : ProviderAnswer) (v : ReceiverAnswer)
         → Heard s nos → Sending (segments limit o) fs → length o ≤ length rest
-        → ((t′ : List Passing) (v′ : ReceiverAnswer) → Adds t t′ (divCeil (length o) limit) 0
+        → ((t′ : List Passing) (v′ : ReceiverAnswer) → Adds (nos .value) t t′ (divCeil (length o) limit) 0 0
         → Ends m (Ex m (tell m (closeFrame (P m) nos 3 o) ∷ []) s l acc (arrived fs) (drop (length (arrived fs)) rest) radio t′ u v′))
         → Ends m (Ex m (flown fs (packets nos o)) s l acc [] rest radio t u v)
     unfolding segments Pass
@@ -139,24 +140,24 @@ module _ (m : Transfer) where
     module _ (s : Sent) (heard : Heard s nos) (sec rest : List ℕ) (radio : List Noise) (t : List Passing) (u : ProviderAnswer) (v : ReceiverAnswer) where
       -- the close finds another sum: the section is dropped, and asked for again
       refuses : checksum sec ≢ checksum o
-          → ((t′ : List Passing) → Adds t t′ 1 0
+          → ((t′ : List Passing) → Adds (nos .value) t t′ 1 0 0
           → Ends m (Ex m (ask m (ack m 4 nos) ∷ []) (ack m 4 nos) l acc [] (sec ++ rest) radio t′ u RA.Send))
           → Ends m (Ex m (tell m (closeFrame (P m) nos 3 o) ∷ []) s l acc sec rest radio t u v)
       unfolding onClose toSend awaited when
       refuses differs =
-          takes m s l acc sec rest radio t u v _ []
+          takes m (nos .value) s l acc sec rest radio t u v _ []
           (λ t′. Ex m (ask m (ack m 4 nos) ∷ []) (ack m 4 nos) l acc [] (sec ++ rest) radio t′ u RA.Send)
           refl refl refl (heard .close _ _)
           (simp (section-dropped (R m s l (length acc) (length sec)) acc sec rest refl refl nos (record { value = checksum o }) differs))
 
       -- the same sum: it is accepted
       pub accepts : checksum sec ≡ checksum o
-          → ((t′ : List Passing) → Adds t t′ 1 0
+          → ((t′ : List Passing) → Adds (nos .value) t t′ 1 0 0
           → Ends m (Ex m (ask m (ack m 3 nos) ∷ []) (ack m 3 nos) l (acc ++ sec) [] rest radio t′ u RA.Send))
           → Ends m (Ex m (tell m (closeFrame (P m) nos 3 o) ∷ []) s l acc sec rest radio t u v)
       unfolding onClose toSend awaited when
       accepts equals =
-          takes m s l acc sec rest radio t u v _ []
+          takes m (nos .value) s l acc sec rest radio t u v _ []
           (λ t′. Ex m (ask m (ack m 3 nos) ∷ []) (ack m 3 nos) l (acc ++ sec) [] rest radio t′ u RA.Send)
           refl refl refl (heard .close _ _)
           (simp (section-accepted (R m s l (length acc) (length sec)) acc sec rest refl refl nos (record { value = checksum o }) equals, length-append, append-assoc))
@@ -178,37 +179,44 @@ module _ (m : Transfer) where
         close = λ q c. simp (eq-eqb (m .object) (m .object) refl, eq-eqb (m .name .value) (m .name .value) refl);
       }
 
+  -- with `done` of the damaged noises met, the section's next sending meets the next of its noises
+  abbrev pub MeetsEach : Nos → List Noise → Noise → List Noise → Type 0
+  MeetsEach nos damaged good radio =
+      (done left : List Noise) → done ++ left ≡ damaged → (k : ℕ) → k ≡ length done → Meets m (nos .value) k (left ++ (good ∷ radio))
+
   module _ (wide : 0 < limit) (l : Length) (nos : Nos) (acc o : List ℕ) (is : octetsOf (P m) (m .file) nos ≡ o) where
     -- a damaged sending passes: nothing is kept of it, and the next one begins
     damaged-one : (radio : List Noise) (x : Noise) (s : Sent) (rest : List ℕ) (t : List Passing) (u : ProviderAnswer) (v : ReceiverAnswer)
-        → Meets m (nos .value) radio → Heard s nos → Damaged limit o x → length o ≤ length rest
-        → ((t′ : List Passing) → Adds t t′ (divCeil (length o) limit + 1) 1
+        → ((k : ℕ) → k ≡ sendingsBefore (nos .value) t → Meets m (nos .value) k radio) → Heard s nos → Damaged limit o x → length o ≤ length rest
+        → ((t′ : List Passing) → Adds (nos .value) t t′ (divCeil (length o) limit + 1) 1 1
         → Ends m (Ex m (flown (nextSending true radio (segments limit o)) (packets nos o)) (ack m 4 nos) l acc [] (arrived (x (segments limit o)) ++ drop (length (arrived (x (segments limit o)))) rest)
         (sendingsLeft true radio) t′ (PA.Running (Section nos)) RA.Send))
         → Ends m (Ex m (flown (x (segments limit o)) (packets nos o)) s l acc [] rest radio t u v)
     damaged-one radio x s rest t u v own heard bad fits k =
         sending-passes wide l nos acc o radio s (x (segments limit o)) rest t u v heard (bad .0) fits
         (λ t′ v′ d. refuses wide l nos acc o s heard (arrived (x (segments limit o))) (drop (length (arrived (x (segments limit o)))) rest) radio t′ u v′ (bad .1)
-        (λ t″ d′. asked-ack m (ack m 4 nos) l acc [] (arrived (x (segments limit o)) ++ drop (length (arrived (x (segments limit o)))) rest) radio t″ u _ nos 4 (Section nos) refl (section-again (P m) nos 0) own
+        (λ t″ d′. asked-ack m (nos .value) (ack m 4 nos) l acc [] (arrived (x (segments limit o)) ++ drop (length (arrived (x (segments limit o)))) rest) radio t″ u _ nos 4 (Section nos) 1 refl (section-again (P m) nos 0) (own _ (omega arith)) (asks-own (asking m (ack m 4 nos)) refl)
         (λ t‴ d″. rw (is, sent-payloads nos o) (k t‴ (omega arith)))))
 
     -- all of them, up to the intact one: the store behind the section is as it was
-    pub damaged-pass : (good : Noise) (radio all : List Noise) → ((done left : List Noise) → done ++ left ≡ all → Meets m (nos .value) (left ++ (good ∷ radio)))
+    pub damaged-pass : (good : Noise) (radio all : List Noise) → MeetsEach nos all good radio
         → (done xs : List Noise) → done ++ xs ≡ all → (s : Sent) (rest : List ℕ) (t : List Passing) (u : ProviderAnswer) (v : ReceiverAnswer)
+        → sendingsBefore (nos .value) t ≡ length done + 1
         → Heard s nos → AllDamaged limit o xs → length o ≤ length rest
         → ((s′ : Sent) (rest′ : List ℕ) (t′ : List Passing) (u′ : ProviderAnswer) (v′ : ReceiverAnswer)
         → Heard s′ nos → length rest′ ≡ length rest → drop (length o) rest′ ≡ drop (length o) rest
-        → Adds t t′ (length xs * (divCeil (length o) limit + 1)) (length xs)
+        → Adds (nos .value) t t′ (length xs * (divCeil (length o) limit + 1)) (length xs) (length xs)
         → Ends m (Ex m (flown (good (segments limit o)) (packets nos o)) s′ l acc [] rest′ radio t′ u′ v′))
         → Ends m (Ex m (flown (nextSending true (xs ++ (good ∷ radio)) (segments limit o)) (packets nos o)) s l acc [] rest (sendingsLeft true (xs ++ (good ∷ radio))) t u v)
     unfolding segments
-    damaged-pass good radio all own done [] e s rest t u v heard bad fits k = k s rest t u v heard refl refl (omega arith)
-    damaged-pass good radio all own done (x ∷ xs) e s rest t u v heard bad fits k =
+    damaged-pass good radio all own done [] e s rest t u v before heard bad fits k = k s rest t u v heard refl refl (omega arith)
+    damaged-pass good radio all own done (x ∷ xs) e s rest t u v before heard bad fits k =
+        let one-more : length (done ++ (x ∷ [])) ≡ length done + 1 = length-append done (x ∷ []) in
         let e′ : (done ++ (x ∷ [])) ++ xs ≡ all = append-assoc done (x ∷ []) xs ∙ e in
         let small : length (arrived (x (segments limit o))) ≤ length o = rw (joined-all limit wide o) at (arrived-fits (segments limit o) (x (segments limit o)) (bad .0 .0)) in
         let alike : length (arrived (x (segments limit o)) ++ drop (length (arrived (x (segments limit o)))) rest) ≡ length rest = over-length (arrived (x (segments limit o))) rest (omega arith) in
-        damaged-one (xs ++ (good ∷ radio)) x s rest t u v (own (done ++ (x ∷ [])) xs e′) heard (bad .0) fits
+        damaged-one (xs ++ (good ∷ radio)) x s rest t u v (λ k h. own (done ++ (x ∷ [])) xs e′ k (omega arith)) heard (bad .0) fits
         (λ t′ d.
-        damaged-pass good radio all own (done ++ (x ∷ [])) xs e′ (ack m 4 nos) (arrived (x (segments limit o)) ++ drop (length (arrived (x (segments limit o)))) rest) t′ _ _ (heard-refusal nos) (bad .1) (rw alike fits)
+        damaged-pass good radio all own (done ++ (x ∷ [])) xs e′ (ack m 4 nos) (arrived (x (segments limit o)) ++ drop (length (arrived (x (segments limit o)))) rest) t′ _ _ (omega arith) (heard-refusal nos) (bad .1) (rw alike fits)
         (λ s′ rest′ t″ u′ v′ heard′ g b d′.
         k s′ rest′ t″ u′ v′ heard′ (g ∙ alike) (b ∙ over-behind (length o) (arrived (x (segments limit o))) rest small) (omega arith)))

@@ -32,17 +32,26 @@ use Rattle.exchange.specs.Exchange.{Side, byProvider, byReceiver, Fate, 
 use Rattle.exchange.specs.Transfer.{Transfer, Transferred, providerFrames, receiverFrames}
 use Rattle.exchange.specs.Order.{MeetsOwn, AnswersInOrder, InOrder}
 use Rattle.exchange.proofs.Hearing.{P, R, hears-sc, hears-ack, receiver-hears}
+use Rattle.exchange.proofs.Asking.{Asks, AsksMore, asks-more}
 
 -- t′ has p more frames of the Provider's than t, and r more of the Receiver's
-abbrev pub Adds : List Passing → List Passing → ℕ → ℕ → Type 0
-Adds t t′ p r = (sentBy byProvider t′ ≡ sentBy byProvider t + p) × (sentBy byReceiver t′ ≡ sentBy byReceiver t + r)
+abbrev Sends : List Passing → List Passing → ℕ → ℕ → Type 0
+Sends t t′ p r = (sentBy byProvider t′ ≡ sentBy byProvider t + p) × (sentBy byReceiver t′ ≡ sentBy byReceiver t + r)
+
+-- and these ask for so many sendings of section n, and for none of a later one
+abbrev pub Adds : ℕ → List Passing → List Passing → ℕ → ℕ → ℕ → Type 0
+Adds n t t′ p r asked = Sends t t′ p r × AsksMore n t t′ asked
 
 sent-more : (s : Side) (t : List Passing) (x : Passing) → sentBy s (t ++ (x ∷ [])) ≡ sentBy s t + oneBy s (x .sender)
 sent-more s [] x = omega arith
 sent-more s (y ∷ t) x = omega (arith, sent-more s t x)
 
-pub adds : (t : List Passing) (x : Passing) → Adds t (t ++ (x ∷ [])) (oneBy byProvider (x .sender)) (oneBy byReceiver (x .sender))
-adds t x = (sent-more byProvider t x, sent-more byReceiver t x)
+pub sends : (t : List Passing) (x : Passing) → Sends t (t ++ (x ∷ [])) (oneBy byProvider (x .sender)) (oneBy byReceiver (x .sender))
+sends t x = (sent-more byProvider t x, sent-more byReceiver t x)
+
+adds : (n : ℕ) (t : List Passing) (x : Passing) (asked : ℕ) → Asks n (x .sender) (x .packet .frame) asked
+    → Adds n t (t ++ (x ∷ [])) (oneBy byProvider (x .sender)) (oneBy byReceiver (x .sender)) asked
+adds n t x asked a = (sends t x, asks-more n t x asked a)
 
 pub one-side : (s : Side) → oneBy byProvider s + oneBy byReceiver s ≡ 1
 one-side byProvider = refl
@@ -104,63 +113,66 @@ module _ (m : Transfer) where
   pub back : (x : Passing) (e e′ : Exchange) → InOrder m e → step (m .file) (m .headers) e ≡ e′ → e′ .passed ≡ e .passed ++ (x ∷ []) → Ends e′ → Ends e
   back x e e′ own does kept (k, frames, along, ends) = (
     suc k,
-    omega (arith, rw kept at frames, adds (e .passed) x, one-side (x .sender)),
+    omega (arith, rw kept at frames, sends (e .passed) x, one-side (x .sender)),
     (own, subst (λ (z : Exchange). Along k z) (sym does) along),
     subst (λ (z : Exchange). Transferred m (run (m .file) (m .headers) k z)) (sym does) ends,
   )
 
-  module _ (s : Sent) (l : Length) (acc sec rest : List ℕ) where
+  -- each step, with the sendings of section n that its frame asks for
+  module _ (n : ℕ) (s : Sent) (l : Length) (acc sec rest : List ℕ) where
     room : length acc + length sec ≤ length (acc ++ (sec ++ rest))
     room = simp length-append (omega arith)
 
     module _ (radio : List Noise) (t : List Passing) (u : ProviderAnswer) (v : ReceiverAnswer) where
       -- the Provider answers a request that keeps it running
-      pub asked-sc : (nos : Nos) (action : ℕ) (r : Reply) → leb action 15 ≡ true
-          → onSc (P m) nos (record { action = action; error = 0 }) ≡ replying (P m) r → MeetsOwn m radio r
-          → ((t′ : List Passing) → Adds t t′ 0 1 → Ends (Ex (queued r radio) s l acc sec rest (left r radio) t′ (PA.Running r) v))
+      pub asked-sc : (nos : Nos) (action : ℕ) (r : Reply) (asked : ℕ) → leb action 15 ≡ true
+          → onSc (P m) nos (record { action = action; error = 0 }) ≡ replying (P m) r → MeetsOwn m t radio r
+          → Asks n byReceiver (asking (sc action nos)) asked
+          → ((t′ : List Passing) → Adds n t t′ 0 1 asked → Ends (Ex (queued r radio) s l acc sec rest (left r radio) t′ (PA.Running r) v))
           → Ends (Ex (ask (sc action nos) ∷ []) s l acc sec rest radio t u v)
-      asked-sc nos action r small does own k =
+      asked-sc nos action r asked small does own asks k =
           let heard = hears-sc m (m .headers t (ask (sc action nos))) nos action small (m .sound t (ask (sc action nos))) ∙ does in
-          back (ask (sc action nos)) _ _ (subst (λ (z : ProviderStep). AnswersInOrder m radio (z .answer)) (sym heard) own)
+          back (ask (sc action nos)) _ _ (subst (λ (z : ProviderStep). AnswersInOrder m t radio (z .answer)) (sym heard) own)
           (ap (provided (m .file) (Ex (ask (sc action nos) ∷ []) s l acc sec rest radio t u v) (ask (sc action nos)) [])
           heard) refl
-          (k _ (adds t (ask (sc action nos))))
+          (k _ (adds n t (ask (sc action nos)) asked asks))
 
       -- or an acknowledgement
-      pub asked-ack : (nos : Nos) (action : ℕ) (r : Reply) → leb action 15 ≡ true
-          → onAck (P m) nos (record { action = action; error = 0 }) ≡ replying (P m) r → MeetsOwn m radio r
-          → ((t′ : List Passing) → Adds t t′ 0 1 → Ends (Ex (queued r radio) s l acc sec rest (left r radio) t′ (PA.Running r) v))
+      pub asked-ack : (nos : Nos) (action : ℕ) (r : Reply) (asked : ℕ) → leb action 15 ≡ true
+          → onAck (P m) nos (record { action = action; error = 0 }) ≡ replying (P m) r → MeetsOwn m t radio r
+          → Asks n byReceiver (asking (ack action nos)) asked
+          → ((t′ : List Passing) → Adds n t t′ 0 1 asked → Ends (Ex (queued r radio) s l acc sec rest (left r radio) t′ (PA.Running r) v))
           → Ends (Ex (ask (ack action nos) ∷ []) s l acc sec rest radio t u v)
-      asked-ack nos action r small does own k =
+      asked-ack nos action r asked small does own asks k =
           let heard = hears-ack m (m .headers t (ask (ack action nos))) nos action small (m .sound t (ask (ack action nos))) ∙ does in
-          back (ask (ack action nos)) _ _ (subst (λ (z : ProviderStep). AnswersInOrder m radio (z .answer)) (sym heard) own)
+          back (ask (ack action nos)) _ _ (subst (λ (z : ProviderStep). AnswersInOrder m t radio (z .answer)) (sym heard) own)
           (ap (provided (m .file) (Ex (ask (ack action nos) ∷ []) s l acc sec rest radio t u v) (ask (ack action nos)) [])
           heard) refl
-          (k _ (adds t (ask (ack action nos))))
+          (k _ (adds n t (ask (ack action nos)) asked asks))
 
       -- the Receiver takes a frame that is no segment
       pub takes : (f : Frame) (q : List Passing) (e : List Passing → Exchange) → receiverSide f ≡ false → ioaOf f ≡ m .object
           → valuesInRange (m .provider-station .sizes) f [] ≡ true → answersTo (asking s) f ≡ true
           → taken (Ex (tell f ∷ q) s l acc sec rest radio t u v) (tell f) q
           (onAnswered (R m s l (length acc) (length sec)) (acc ++ (sec ++ rest)) [] f) ≡ e (t ++ (tell f ∷ []))
-          → ((t′ : List Passing) → Adds t t′ 1 0 → Ends (e t′))
+          → ((t′ : List Passing) → Adds n t t′ 1 0 0 → Ends (e t′))
           → Ends (Ex (tell f ∷ q) s l acc sec rest radio t u v)
       takes f q e side object fits right does k =
           back (tell f) _ (e (t ++ (tell f ∷ []))) tt
           (ap (taken (Ex (tell f ∷ q) s l acc sec rest radio t u v) (tell f) q)
           (receiver-hears m s l _ _ _ [] f _ room (m .sound t (tell f)) side object fits right) ∙ does) (sym (ap (λ (z : Exchange). z .passed) does))
-          (k _ (adds t (tell f)))
+          (k _ (adds n t (tell f) 0 (refl, refl)))
 
       -- a segment that is lost
       pub loses : (nos : Nos) (o : List ℕ) (q : List Passing)
-          → ((t′ : List Passing) → Adds t t′ 1 0 → Ends (Ex q s l acc sec rest radio t′ u v))
+          → ((t′ : List Passing) → Adds n t t′ 1 0 0 → Ends (Ex q s l acc sec rest radio t′ u v))
           → Ends (Ex (hit nos o lost ∷ q) s l acc sec rest radio t u v)
-      loses nos o q k = back (hit nos o lost) _ _ tt refl refl (k _ (adds t (hit nos o lost)))
+      loses nos o q k = back (hit nos o lost) _ _ tt refl refl (k _ (adds n t (hit nos o lost) 0 (refl, refl)))
 
       -- one that arrives, as x
       pub gains : (nos : Nos) (o x : List ℕ) (q : List Passing) → 1 ≤ length o → length o ≤ segmentLimit (m .provider-station .sizes)
           → length x ≡ length o → length o ≤ length rest → answersTo (asking s) (segmentPacket (P m) nos o .frame) ≡ true
-          → ((t′ : List Passing) → Adds t t′ 1 0 → Ends (Ex q s l acc (sec ++ x) (drop (length x) rest) radio t′ u RA.Running))
+          → ((t′ : List Passing) → Adds n t t′ 1 0 0 → Ends (Ex q s l acc (sec ++ x) (drop (length x) rest) radio t′ u RA.Running))
           → Ends (Ex (hit nos o (arrives x) ∷ q) s l acc sec rest radio t u v)
       unfolding segmentInRange toSend when
       gains nos o x q some short alike fits right k =
@@ -169,4 +181,4 @@ module _ (m : Transfer) where
           (receiver-hears m s l _ _ _ x _ _ room (m .sound t (hit nos o (arrives x))) refl refl
           (simp (alike, eq-eqb (length o) (length o) refl, le-leb 1 (length o) some, le-leb (length o) (segmentLimit (m .provider-station .sizes)) short)) right)
           ∙ simp (segment-taken (R m s l (length acc) (length sec)) acc sec rest refl refl x (omega arith), length-append sec x, append-nil)) refl
-          (k _ (adds t (hit nos o (arrives x))))
+          (k _ (adds n t (hit nos o (arrives x)) 0 (refl, refl)))

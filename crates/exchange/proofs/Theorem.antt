@@ -28,6 +28,7 @@ use Rattle.receive.specs.declared.ReceiverAnswer.the-variants as RA
 use Rattle.exchange.specs.Exchange.{Exchange, begun}
 use Rattle.exchange.specs.Transfer.{Transfer, Transferred, TwoPartyTransfer, Radio, inOrder, sendingFrames, damagedSendings, providerFrames, receiverFrames, exchanged}
 use Rattle.exchange.proofs.Hearing.{P, R, short, settings, provider-fresh, receiver-fresh, starts}
+use Rattle.exchange.proofs.Asking.{asks-none}
 use Rattle.exchange.proofs.Steps.{Ends, Ex, sc, asking, ask, asked-sc, takes}
 use Rattle.exchange.proofs.Sendings.{limit}
 use Rattle.exchange.proofs.Sections.{Awaits, size, count, number, Pass, sections-pass}
@@ -55,13 +56,13 @@ module _ (m : Transfer) where
       → Ends m (Ex m (ask m (sc m 1 none) ∷ []) (sc m 1 none) Unknown [] [] (m .store) (inOrder (m .radio)) [] (PA.Running Nothing) RA.Send)
   unfolding onFileReady Pass toSend awaited when
   opens c e hit na mb =
-      asked-sc m (sc m 1 none) Unknown [] [] (m .store) (inOrder (m .radio)) [] _ _ none 1 FileReady refl (selects-file (P m) none 0) tt
-      (λ t₁ d₁. takes m (sc m 1 none) Unknown [] [] (m .store) (inOrder (m .radio)) t₁ _ _ (fileReady (P m)) []
+      asked-sc m 0 (sc m 1 none) Unknown [] [] (m .store) (inOrder (m .radio)) [] _ _ none 1 FileReady 0 refl (selects-file (P m) none 0) tt (asks-none 0 (asking m (sc m 1 none)) refl)
+      (λ t₁ d₁. takes m 0 (sc m 1 none) Unknown [] [] (m .store) (inOrder (m .radio)) t₁ _ _ (fileReady (P m)) []
       (λ t′. Ex m (ask m (sc m 2 none) ∷ []) (sc m 2 none) (Known (length (m .file))) [] [] (m .store) (inOrder (m .radio)) t′ (PA.Running FileReady) RA.Send)
       refl refl (simp (le-leb (length (m .file)) 0xFFFFFF (short m))) (offers _) refl
-      (λ t₂ d₂. asked-sc m (sc m 2 none) (Known (length (m .file))) [] [] (m .store) (inOrder (m .radio)) t₂ _ _ none 2 (SectionReady (number m 0)) refl (requests-file (P m) none 0) tt
+      (λ t₂ d₂. asked-sc m 0 (sc m 2 none) (Known (length (m .file))) [] [] (m .store) (inOrder (m .radio)) t₂ _ _ none 2 (SectionReady (number m 0)) 0 refl (requests-file (P m) none 0) tt (asks-none 0 (asking m (sc m 2 none)) refl)
       (λ t₃ d₃. sections-pass m fits c 0 (m .radio) [] (m .file) (m .store) t₃ _ _ (sc m 2 none)
-      refl (omega arith) (rw zero-mul) refl (m .room) refl awaits-first hit (omega arith) (omega arith))))
+      refl (omega arith) (rw zero-mul) refl (m .room) refl (omega arith) awaits-first hit (omega arith) (omega arith))))
 
   begins : (c : ℕ) → count m ≡ c
       → Radio (limit m) (parts c (size m) (m .file)) (m .radio)
