@@ -4,7 +4,7 @@ use mathlib.Core.List.{List, [], _∷_, map}
 use lib.Dec.{lit<, lit≤}
 use Rattle.laws.specs.When.{when}
 use Rattle.lists.specs.Parts.{divCeil}
-use Rattle.asdu.specs.Elements.{scqInRange, afqInRange}
+use Rattle.asdu.specs.Elements.{scqInRange, afqInRange, losInRange}
 use Rattle.asdu.specs.Header.{isMirror}
 use Rattle.asdu.specs.Sizes.{within, sizesRight, headerLen, maxIoa, maxCommonAddress, elementRoom, segmentLimit}
 use Rattle.frame.specs.Frames.{scCause, isFileType}
@@ -80,5 +80,5 @@ script-transferred = two-party-transfer script
 
 -- its output, line by line
 pub script-output : map lineOf (exchanged script 13 .passed) ≡ scriptLines
-unfolding script when divCeil scqInRange afqInRange isMirror within sizesRight headerLen maxIoa maxCommonAddress elementRoom segmentLimit scCause isFileType segmentInRange calledSection oneOf fileAnswered sectionAnswered scAnswered ackAnswered namesAgree answersTo octetSum checksum usesFunction addressRight settled serves frameAgrees admitFrame onAsdu matched onAnswer addressed framed built sectionLength sectionCount sections sectionOctets segments fileAgrees onSc after onAck isOurs onRequest provide storeAgrees written awaited started onFileReady onSectionReady onSectionClose onFileClose onClose onSegment receive toSend
+unfolding script when divCeil scqInRange afqInRange losInRange isMirror within sizesRight headerLen maxIoa maxCommonAddress elementRoom segmentLimit scCause isFileType segmentInRange calledSection oneOf fileAnswered sectionAnswered scAnswered ackAnswered namesAgree answersTo octetSum checksum usesFunction addressRight settled serves frameAgrees admitFrame onAsdu matched onAnswer addressed framed built sectionLength sectionCount sections sectionOctets segments fileAgrees onSc after onAck isOurs onRequest provide storeAgrees written awaited started onFileReady onSectionReady onSectionClose onFileClose onClose onSegment receive toSend
 script-output = refl

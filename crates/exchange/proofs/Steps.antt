@@ -3,12 +3,14 @@ use Prim.Native.Nat.{ℕ, zero, suc, _+_, _≤_}
 use mathlib.Core.Path.{_≡_, refl, sym, ap, _∙_, subst}
 use mathlib.Core.Bool.{true, false}
 use mathlib.Core.List.{List, [], _∷_, _++_, append-nil}
+use native.Mathlib.Nat.{le-trans}
 use native.Mathlib.Omega.{arith}
 use lib.Dec.{leb}
 use lib.ListN.{length, drop, length-append}
 use borrow.Author.Tests.{le-leb, eq-eqb}
 use Rattle.laws.specs.When.{when}
 use Rattle.asdu.specs.Sizes.{segmentLimit}
+use Rattle.asdu.specs.Elements.{losInRange}
 use Rattle.asdu.specs.declared.Nos.{Nos}
 use Rattle.frame.specs.declared.Frame.{Frame}
 use Rattle.frame.specs.Frames.{receiverSide, ioaOf}
@@ -20,6 +22,7 @@ use Rattle.provide.specs.declared.Reply.{Reply}
 use Rattle.provide.specs.declared.ProviderStep.{ProviderStep}
 use Rattle.provide.specs.declared.ProviderAnswer.{ProviderAnswer}
 use Rattle.provide.specs.declared.ProviderAnswer.the-variants as PA
+use Rattle.provide.proofs.Building.{limit-most}
 use Rattle.receive.specs.Record.{frameOf}
 use Rattle.receive.specs.Answers.{onAnswered, toSend}
 use Rattle.receive.specs.declared.Length.{Length}
@@ -174,11 +177,17 @@ module _ (m : Transfer) where
           → length x ≡ length o → length o ≤ length rest → answersTo (asking s) (segmentPacket (P m) nos o .frame) ≡ true
           → ((t′ : List Passing) → Adds n t t′ 1 0 0 → Ends (Ex q s l acc (sec ++ x) (drop (length x) rest) radio t′ u RA.Running))
           → Ends (Ex (hit nos o (arrives x) ∷ q) s l acc sec rest radio t u v)
-      unfolding segmentInRange toSend when
+      unfolding segmentInRange losInRange toSend when
       gains nos o x q some short alike fits right k =
           back (hit nos o (arrives x)) _ (Ex q s l acc (sec ++ x) (drop (length x) rest) radio (t ++ (hit nos o (arrives x) ∷ [])) u RA.Running) tt
           (ap (taken (Ex (hit nos o (arrives x) ∷ q) s l acc sec rest radio t u v) (hit nos o (arrives x)) q)
           (receiver-hears m s l _ _ _ x _ _ room (m .sound t (hit nos o (arrives x))) refl refl
-          (simp (alike, eq-eqb (length o) (length o) refl, le-leb 1 (length o) some, le-leb (length o) (segmentLimit (m .provider-station .sizes)) short)) right)
+          (simp (
+            alike,
+            eq-eqb (length o) (length o) refl,
+            le-leb 1 (length o) some,
+            le-leb (length o) 240 (le-trans short (limit-most (m .provider-station .sizes))),
+            le-leb (length o) (segmentLimit (m .provider-station .sizes)) short,
+          )) right)
           ∙ simp (segment-taken (R m s l (length acc) (length sec)) acc sec rest refl refl x (omega arith), length-append sec x, append-nil)) refl
           (k _ (adds n t (hit nos o (arrives x)) 0 (refl, refl)))

@@ -1,9 +1,16 @@
 // Calls of the elements, the widths, the packed entry, the header's causes and the checksum.
 use asdu::AddressSizes;
+use asdu::Cp56Time2a;
 use asdu::DirectoryEntry;
 use asdu::EntryResult;
+use asdu::Lof;
+use asdu::Los;
+use asdu::Nof;
+use asdu::Nos;
 use asdu::Packed;
+use asdu::Scq;
 use asdu::SizesResult;
+use asdu::Sof;
 use asdu::entry;
 use asdu::headers;
 use asdu::sizes;
@@ -14,7 +21,14 @@ use words::Numbers;
 use words::Octets;
 use words::read;
 use words::text;
+use words::u8_at;
+use words::u32_at;
 use words::write;
+
+fn is_los_in_range(value: u8) -> bool {
+    let los = Los { value };
+    los.is_in_range()
+}
 
 // Whether an element is in range.
 fn is_in_range(which: u8, args: &Numbers) -> bool {
@@ -26,7 +40,8 @@ fn is_in_range(which: u8, args: &Numbers) -> bool {
         4 => make::lof(args, 0).is_in_range(),
         5 => make::sof(args, 0).is_in_range(),
         6 => make::time(args, 0).is_in_range(),
-        _ => make::entry(args, 0).is_in_range(),
+        7 => make::entry(args, 0).is_in_range(),
+        _ => is_los_in_range(u8_at(args, 0, 0)),
     }
 }
 
@@ -116,6 +131,31 @@ fn unpack(octets: &[u8]) {
     }
 }
 
+// A constant of an element, by its place in the table behind the calls.
+fn constant_of(which: u8) -> u64 {
+    match which {
+        26 => Nof::LEN as u64,
+        27 => Nos::LEN as u64,
+        28 => Lof::LEN as u64,
+        29 => Los::LEN as u64,
+        30 => Sof::LEN as u64,
+        31 => Cp56Time2a::LEN as u64,
+        32 => DirectoryEntry::LEN as u64,
+        33 => Scq::DEACTIVATE_FILE as u64,
+        34 => Scq::DELETE_FILE as u64,
+        35 => Scq::DEACTIVATE_SECTION as u64,
+        36 => Los::MAX as u64,
+        37 => sizes::MAX_SEGMENT as u64,
+        38 => sizes::MAX_ASDU as u64,
+        _ => sizes::MAX_DIRECTORY_FILES as u64,
+    }
+}
+
+fn entry_address(args: &Numbers) {
+    let base = u32_at(args, 0, 0);
+    write::one(entry::entry_address(base, args[1] as usize) as u64);
+}
+
 // The calls behind the questions.
 fn answer_more(which: u8, args: &Numbers, octets: &[u8]) {
     match which {
@@ -125,7 +165,9 @@ fn answer_more(which: u8, args: &Numbers, octets: &[u8]) {
         21 => check_sum(args, octets),
         22 => pack_into(args),
         23 => unpack(octets),
-        _ => write::one(of_sizes(which, make::sizes(args, 0))),
+        25 => entry_address(args),
+        12..=17 => write::one(of_sizes(which, make::sizes(args, 0))),
+        _ => write::one(constant_of(which)),
     }
 }
 
@@ -135,6 +177,7 @@ fn answer(which: u8, args: &Numbers, octets: &[u8]) {
         8 => write::yes_or_no(entry::is_page(octets)),
         9 => write::yes_or_no(is_mirror(args)),
         10..=11 => write::yes_or_no(is_of_sizes(which, make::sizes(args, 0))),
+        24 => write::yes_or_no(is_in_range(which, args)),
         _ => answer_more(which, args, octets),
     }
 }
@@ -166,7 +209,23 @@ unknown_cause:x
 checksum:o
 check_checksum:1o
 pack:c241fff21ff1f1111
-unpack:o",
+unpack:o
+los:1
+entry_address:48
+constant nof_len
+constant nos_len
+constant lof_len
+constant los_len
+constant sof_len
+constant time_len
+constant entry_len
+constant deactivate_file
+constant delete_file
+constant deactivate_section
+constant los_max
+constant max_segment
+constant max_asdu
+constant max_directory_files",
         args,
         octets,
     );

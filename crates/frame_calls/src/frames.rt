@@ -88,7 +88,8 @@ fn respond(which: u8, args: &Numbers, octets: &[u8]) {
         8..=9 => write::yes_or_no(is_of_type(which, u8_at(args, 0, 0))),
         10..=11 => write::yes_or_no(is_answer(which, make::frame(args, 0), make::frame(args, 24))),
         12 => header_of(args, make::frame(args, 2)),
-        _ => frame_with(args, octets),
+        13 => frame_with(args, octets),
+        _ => write::one(range::last_ioa(make::frame(args, 0), octets) as u64),
     }
 }
 
@@ -109,7 +110,8 @@ is_receiver_side_type:1
 answers:FyF
 answers_type:FyF
 header_of:21F
-frame_with:11121Fb",
+frame_with:11121Fb
+frame last_ioa:Fb",
         args,
         octets,
     );

@@ -4,6 +4,8 @@ use crate::kept::PARTY_PROVIDER;
 use crate::kept::PROVIDER;
 use provide::CountResult;
 use provide::FrameResult;
+use provide::Part;
+use provide::PartResult;
 use provide::Provider;
 use provide::ProviderAnswer;
 use provide::ProviderResult;
@@ -58,6 +60,13 @@ fn count(result: CountResult) {
     }
 }
 
+fn part(result: PartResult) {
+    match result {
+        PartResult::Ok(part) => write::answer(write::TWO, part.start as u64, part.length as u64, 0),
+        PartResult::Err(error) => write::refused(error),
+    }
+}
+
 // The fields of a Provider's record from a place on.
 pub fn show_record(regs: &Numbers, from: u8) {
     write::pattern(
@@ -79,7 +88,7 @@ fn of_reply(which: u8, provider: Provider, file: &[u8], reply: Reply, index: usi
     match which {
         12 => count(provider.reply_count(file, reply)),
         13 => frame(provider.reply_frame(file, reply, index)),
-        _ => write::octets(provider.reply_payload(file, reply, index)),
+        _ => part(provider.reply_payload(file, reply, index)),
     }
 }
 
@@ -98,11 +107,20 @@ fn of_provider(which: u8, provider: Provider, file: &[u8], args: &Numbers) {
     }
 }
 
+// The octets of a part of the file.
+fn octets(file: &[u8], args: &Numbers) {
+    let part = Part {
+        start: args[0] as usize,
+        length: args[1] as usize,
+    };
+    write::octets(part.octets(file));
+}
+
 fn answer(which: u8, regs: &Numbers, file: &[u8], args: &Numbers) {
-    if which == 8 {
-        show_record(regs, PROVIDER);
-    } else {
-        of_provider(which, kept::provider(regs, PROVIDER), file, args);
+    match which {
+        8 => show_record(regs, PROVIDER),
+        15 => octets(file, args),
+        _ => of_provider(which, kept::provider(regs, PROVIDER), file, args),
     }
 }
 
@@ -176,6 +194,7 @@ provider announce
 provider reply_count:Y
 provider reply_frame:Y8
 provider reply_payload:Y8
+provider part:88
 provider new:42
 provider on_asdu:11f12uRb",
         args,
@@ -187,8 +206,8 @@ provider on_asdu:11f12uRb",
     match which {
         read::MISSING => return false,
         0..=7 => set(which, regs, number),
-        15 => new(regs, file, args),
-        16 => on_asdu(regs, file, args, given),
+        16 => new(regs, file, args),
+        17 => on_asdu(regs, file, args, given),
         _ => answer(which, regs, file, args),
     }
     true

@@ -49,10 +49,11 @@ pub fn role_number(role: Role) -> u64 {
 }
 
 pub fn selection(numbers: &Numbers, from: u8) -> Selection {
-    let n = at(numbers, from, 0);
-    Selection {
-        monitor: n % 2 == 1,
-        control: 1 < n,
+    match at(numbers, from, 0) {
+        0 => Selection::NONE,
+        1 => Selection::MONITOR,
+        2 => Selection::CONTROL,
+        _ => Selection::BOTH,
     }
 }
 

@@ -21,6 +21,7 @@ use words::read;
 use words::text;
 use words::u8_at;
 use words::u16_at;
+use words::u32_at;
 use words::write;
 
 // ---- What is answered
@@ -79,6 +80,12 @@ fn of_selection(which: u8, selection: Selection, args: &Numbers) {
 
 fn is_own_address(args: &Numbers) -> bool {
     procedure::is_own_address(make::sizes(args, 0), u16_at(args, 0, 3), u8_at(args, 0, 4))
+}
+
+fn is_addressed(args: &Numbers) -> bool {
+    let ca = u16_at(args, 0, 3);
+    let org = u8_at(args, 0, 4);
+    procedure::is_addressed(make::sizes(args, 0), ca, org, u32_at(args, 0, 5))
 }
 
 fn answer_plain(which: u8, args: &Numbers) {
@@ -236,7 +243,8 @@ station show
 station new:rs21111
 station conventional:rs21
 station with_address_sizes:111
-station set:rs21111",
+station set:rs21111
+is_addressed:111214",
         args,
         octets,
     );
@@ -245,6 +253,7 @@ station set:rs21111",
         read::MISSING => return false,
         0..=16 => answer(which, regs, args, text::front(octets, count)),
         20 => set(regs, args),
+        21 => write::yes_or_no(is_addressed(args)),
         _ => making(which, regs, args),
     }
     true

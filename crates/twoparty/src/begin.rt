@@ -22,14 +22,8 @@ fn providing(role: Role) -> Selection
     ensures { λ r. ⌜ r ≡ providing role ⌝ }
 {
     match role {
-        Role::Controlled => Selection {
-            monitor: true,
-            control: false,
-        },
-        Role::Controlling => Selection {
-            monitor: false,
-            control: true,
-        },
+        Role::Controlled => Selection::MONITOR,
+        Role::Controlling => Selection::CONTROL,
     }
 }
 
