@@ -10,6 +10,8 @@ use lib.ListN.{length, drop}
 use borrow.Author.Tests.{leb-true, ltb-true}
 use Rattle.laws.specs.When.{when}
 use Rattle.asdu.specs.Sizes.{sizesRight, maxCommonAddress, segmentLimit}
+use Rattle.asdu.specs.declared.FtError.{FtError}
+use Rattle.asdu.specs.declared.FtError.the-variants as E
 use Rattle.asdu.proofs.Range.{both}
 use Rattle.ft.specs.Directions.{otherRole}
 use Rattle.ft.specs.Procedure.{addressRight, settled, addressed}
@@ -31,12 +33,14 @@ use Rattle.exchange.proofs.Ordering.{in-order}
 use Rattle.twoparty.specs.Party.{stationOf, withProvider, partyMade}
 use Rattle.run.specs.Loop.{Ran, ranFrom}
 use Rattle.radio.specs.Radio.{allHaveOctets}
-use Rattle.run.specs.Run.{ownHeaders, exchangeOf, endingBy, ending, twoParty, scriptFrames}
+use Rattle.run.specs.Run.{ownHeaders, exchangeOf, endingBy, ending, refused, twoParty, scriptFrames}
 use Rattle.twoparty.specs.declared.Settings.{Settings}
+use Rattle.twoparty.specs.declared.TwoParty.{TwoParty}
+use Rattle.twoparty.specs.declared.TwoPartyResult.the-variants as T
 use Rattle.run.specs.declared.RunResult.{RunResult}
 use Rattle.run.specs.declared.RunResult.the-variants.{Whole, Spent}
 use Rattle.radio.proofs.Named.{nameable}
-use Rattle.run.proofs.Running.{Accepted, providing, receiving, provider-made, receiver-made, run-is}
+use Rattle.run.proofs.Running.{Accepted, providing, receiving, beginning, provider-made, receiver-made, run-is}
 
 module _ (s : Settings) (file damage store : List ℕ) where
   module _ (a : Accepted s file damage store) where
@@ -44,27 +48,45 @@ module _ (s : Settings) (file damage store : List ℕ) where
     unfolding twoParty when
     accepted-run budget = simp (a .widths, a .addresses, a .short, a .named, a .room)
 
-    accepted-party : (budget : ℕ) → ranFrom budget file damage store (partyMade s file damage store) ≡ twoParty s file damage store budget
+    party-made : partyMade s file damage store ≡ T.Ok (beginning s file damage store)
     unfolding partyMade withProvider when
-    accepted-party budget =
-        simp (provider-made s file damage store a, a .named, a .room, receiver-made s file damage store a) (run-is s file damage store a budget ∙ sym (accepted-run budget))
+    party-made = simp (provider-made s file damage store a, a .named, a .room, receiver-made s file damage store a)
 
-  -- the record's run, with its tests, is the run
-  pub party-run : (budget : ℕ) → ranFrom budget file damage store (partyMade s file damage store) ≡ twoParty s file damage store budget
+  -- all tests before any frame are passed, or the first that is not refuses making and run alike
+  data Tested : Type 0 where
+    accepts : Accepted s file damage store → Tested
+    refuses : (e : FtError) → partyMade s file damage store ≡ T.Err e → ((budget : ℕ) → twoParty s file damage store budget ≡ refused store e) → Tested
+
+  tested : Tested
   unfolding partyMade withProvider providerMade twoParty when
-  party-run budget =
+  tested =
       by-tests (sizesRight (s .sizes)) refl (addressed (s .sizes) (s .«common_address») 0 (s .ioa)) refl (leb (length file) 0xFFFFFF) refl
       (allHaveOctets (sectionLength (length file)) file damage) refl (leb (length file) (length store)) refl
     where
       by-tests : (b₁ : Bool) → sizesRight (s .sizes) ≡ b₁ → (b₂ : Bool) → addressed (s .sizes) (s .«common_address») 0 (s .ioa) ≡ b₂ → (b₃ : Bool) → leb (length file) 0xFFFFFF ≡ b₃
-          → (b₄ : Bool) → allHaveOctets (sectionLength (length file)) file damage ≡ b₄ → (b₅ : Bool) → leb (length file) (length store) ≡ b₅
-          → ranFrom budget file damage store (partyMade s file damage store) ≡ twoParty s file damage store budget
-      by-tests false e₁ b₂ e₂ b₃ e₃ b₄ e₄ b₅ e₅ = simp e₁
-      by-tests true e₁ false e₂ b₃ e₃ b₄ e₄ b₅ e₅ = simp (e₁, e₂)
-      by-tests true e₁ true e₂ false e₃ b₄ e₄ b₅ e₅ = simp (e₁, e₂, e₃)
-      by-tests true e₁ true e₂ true e₃ false e₄ b₅ e₅ = simp (e₁, e₂, e₃, e₄)
-      by-tests true e₁ true e₂ true e₃ true e₄ false e₅ = simp (e₁, e₂, e₃, e₄, e₅)
-      by-tests true e₁ true e₂ true e₃ true e₄ true e₅ = accepted-party (record { widths = e₁; addresses = e₂; short = e₃; named = e₄; room = e₅ }) budget
+          → (b₄ : Bool) → allHaveOctets (sectionLength (length file)) file damage ≡ b₄ → (b₅ : Bool) → leb (length file) (length store) ≡ b₅ → Tested
+      by-tests false e₁ b₂ e₂ b₃ e₃ b₄ e₄ b₅ e₅ = refuses E.InvalidAddressSizes (simp e₁) (λ budget. simp e₁)
+      by-tests true e₁ false e₂ b₃ e₃ b₄ e₄ b₅ e₅ = refuses E.AddressOutOfRange (simp (e₁, e₂)) (λ budget. simp (e₁, e₂))
+      by-tests true e₁ true e₂ false e₃ b₄ e₄ b₅ e₅ = refuses E.FileTooLong (simp (e₁, e₂, e₃)) (λ budget. simp (e₁, e₂, e₃))
+      by-tests true e₁ true e₂ true e₃ false e₄ b₅ e₅ = refuses E.ScriptMisshapen (simp (e₁, e₂, e₃, e₄)) (λ budget. simp (e₁, e₂, e₃, e₄))
+      by-tests true e₁ true e₂ true e₃ true e₄ false e₅ = refuses E.StoreFull (simp (e₁, e₂, e₃, e₄, e₅)) (λ budget. simp (e₁, e₂, e₃, e₄, e₅))
+      by-tests true e₁ true e₂ true e₃ true e₄ true e₅ = accepts (record { widths = e₁; addresses = e₂; short = e₃; named = e₄; room = e₅ })
+
+  -- what is made has passed them all, and is the record before any frame
+  pub made-accepted : (t : TwoParty) → partyMade s file damage store ≡ T.Ok t → Accepted s file damage store × (beginning s file damage store ≡ t)
+  made-accepted t made = by-tests tested
+    where
+      by-tests : Tested → Accepted s file damage store × (beginning s file damage store ≡ t)
+      by-tests (accepts a) = (a, cc (party-made a, made))
+      by-tests (refuses e not ran) = let z : _≡_ {A = ℕ} 0 1 = cc (not, made) in absurd (omega arith)
+
+  -- the record's run, with its tests, is the run
+  pub party-run : (budget : ℕ) → ranFrom budget file damage store (partyMade s file damage store) ≡ twoParty s file damage store budget
+  party-run budget = by-tests tested
+    where
+      by-tests : Tested → ranFrom budget file damage store (partyMade s file damage store) ≡ twoParty s file damage store budget
+      by-tests (accepts a) = rw (party-made a) (run-is s file damage store a budget ∙ sym (accepted-run a budget))
+      by-tests (refuses e made ran) = rw made (sym (ran budget))
 
 -- ---- the theorem's premises are met
 

@@ -4,10 +4,9 @@ use mathlib.Core.Path.{_≡_, refl, sym, ap, _∙_}
 use mathlib.Core.Bool.{Bool, true, false, true≢false}
 use mathlib.Core.List.{List, [], _∷_, _++_, map, append-nil}
 use native.Mathlib.Omega.{arith}
-use native.Mathlib.Numerals.{add-one}
 use native.Mathlib.Decide.{decLt}
 use lib.Dec.{ltb}
-use lib.ListN.{length, drop, getD}
+use lib.ListN.{length}
 use borrow.Author.Tests.{lt-ltb}
 use Rattle.laws.specs.When.{when}
 use Rattle.asdu.specs.declared.Nos.{Nos}
@@ -29,7 +28,7 @@ use Rattle.provide.specs.declared.FrameResult.the-variants as F
 use Rattle.provide.specs.declared.Reply.{Reply}
 use Rattle.provide.specs.declared.Reply.the-variants.{Nothing, FileReady, SectionReady, Section, FileClose}
 use Rattle.provide.proofs.Indexed.{count-is, replies-agree}
-use Rattle.receive.specs.Record.{awaited, started}
+use Rattle.receive.specs.Record.{storeAgrees, awaited, started}
 use Rattle.receive.specs.Answers.{Outcome, receive, sends, toSend}
 use Rattle.receive.specs.declared.Receiver.{Receiver}
 use Rattle.receive.specs.declared.ReceiverAnswer.{ReceiverAnswer}
@@ -37,27 +36,21 @@ use Rattle.receive.specs.declared.ReceiverStep.{ReceiverStep}
 use Rattle.receive.specs.declared.ToSend.the-variants as T
 use Rattle.exchange.specs.Exchange.{Side, byReceiver, Passing, untouched, providerSends, packetsOf, receiverSends, isSending, Noise, sent, sendingsLeft, Exchange, provided, taken, stepOn, step, begun}
 use Rattle.exchange.proofs.Radio.{payloads-behind}
-use Rattle.twoparty.specs.Party.{startedParty, headerBy, asked, replied, afterProvider, afterReceiver, nextFrame, advanced}
-use Rattle.run.specs.Loop.{isOver}
+use Rattle.twoparty.specs.Party.{startedParty, headerBy, asked, replied, afterProvider, afterReceiver, advanced}
+use Rattle.twoparty.proofs.Standing.{queueOf, none, packetAt, frame-is, first-is}
 use Rattle.radio.specs.Radio.{afterSending, arriving}
 use Rattle.run.specs.Run.{ownHeaders}
 use Rattle.twoparty.specs.declared.Queue.{Queue}
 use Rattle.twoparty.specs.declared.Queue.the-variants as Q
 use Rattle.radio.specs.declared.Radio.{Radio}
 use Rattle.twoparty.specs.declared.TwoParty.{TwoParty}
-use Rattle.run.proofs.Machines.{station-same, agreement-same, receive-stays, segment-silent}
-use Rattle.radio.proofs.Told.{told, bare-told, flown-none, passingAt, told-at, told-past}
+use Rattle.run.proofs.Machines.{station-same, agreement-same, Stays, receive-stays, agreement-stays, segment-silent}
+use Rattle.radio.proofs.Told.{told, bare-told, flown-none, passingAt, told-past}
 use Rattle.radio.proofs.Tuning.{Unnamed, Tuned, tuned-next, tuned-sent}
 
 -- ---- the queue
 
 module _ (p : Provider) (file : List ℕ) where
-  -- the frames on their way between these machines: the Receiver's is the one whose answer its record awaits
-  abbrev pub queueOf : Receiver → Queue → List Passing
-  queueOf r Q.Empty = []
-  queueOf r Q.Receiver = untouched byReceiver (bare (awaited r)) ∷ []
-  queueOf r (Q.Provider reply i damaged) = drop i (told damaged (replies p file reply))
-
   -- what the Provider's answer puts into it
   module _ (damage : List ℕ) (count : ℕ) (r : Radio) (radio : List Noise) (tuned : Tuned damage count r radio) where
     one : (f : Frame) → sent radio false (bare f ∷ []) ≡ told (ltb 0 (r .left)) (bare f ∷ [])
@@ -72,7 +65,7 @@ module _ (p : Provider) (file : List ℕ) where
         (tuned-sent damage count p nos (closeFrame p nos 3 (octetsOf p file nos)) (segments (limitOf p) (octetsOf p file nos)) r radio tuned)
     reply-sent (FileClose nos) = one _
 
-    answer-sent : (o : Receiver) (a : ProviderAnswer) → sent radio (isSending a) (providerSends p file a) ≡ queueOf o (replied r a)
+    answer-sent : (o : Receiver) (a : ProviderAnswer) → sent radio (isSending a) (providerSends p file a) ≡ queueOf p file o (replied r a)
     answer-sent o (PA.Running reply) = reply-sent reply
     answer-sent o PA.Complete = refl
     answer-sent o (PA.Deactivated scq) = refl
@@ -85,30 +78,23 @@ module _ (p : Provider) (file : List ℕ) where
     silent : sending ≡ false → Apart rest sending
     last : rest ≡ [] → Apart rest sending
 
-  chosen : (r r′ : Receiver) (rest : Queue) (b : Bool) → queueOf r rest ≡ queueOf r′ rest → Apart (queueOf r rest) b
-      → queueOf r rest ++ map (untouched byReceiver) (packetsOf (when b (T.Frame (awaited r′)) T.Nothing)) ≡ queueOf r′ (when b Q.Receiver rest)
+  chosen : (r r′ : Receiver) (rest : Queue) (b : Bool) → queueOf p file r rest ≡ queueOf p file r′ rest → Apart (queueOf p file r rest) b
+      → queueOf p file r rest ++ map (untouched byReceiver) (packetsOf (when b (T.Frame (awaited r′)) T.Nothing)) ≡ queueOf p file r′ (when b Q.Receiver rest)
   unfolding when
-  chosen r r′ rest false same h = append-nil (queueOf r rest) ∙ same
+  chosen r r′ rest false same h = append-nil (queueOf p file r rest) ∙ same
   chosen r r′ rest true same (silent e) = absurd (true≢false e)
   chosen r r′ rest true same (last e) = rw e
 
-  asked-sent : (r : Receiver) (rest : Queue) (s : ReceiverStep) → queueOf r rest ≡ queueOf (s .receiver) rest → Apart (queueOf r rest) (sends (s .answer))
-      → queueOf r rest ++ map (untouched byReceiver) (receiverSends s) ≡ queueOf (s .receiver) (asked rest (s .answer))
+  asked-sent : (r : Receiver) (rest : Queue) (s : ReceiverStep) → queueOf p file r rest ≡ queueOf p file (s .receiver) rest → Apart (queueOf p file r rest) (sends (s .answer))
+      → queueOf p file r rest ++ map (untouched byReceiver) (receiverSends s) ≡ queueOf p file (s .receiver) (asked rest (s .answer))
   unfolding toSend asked
   asked-sent r rest s same apart = chosen r (s .receiver) rest (sends (s .answer)) same apart
 
   -- ---- a frame of a reply is its last, or a segment
 
-  -- for an index past the end
-  abbrev none : Packet
-  none = bare (fileReady p)
-
-  abbrev frameAt : Reply → ℕ → Packet
-  frameAt reply i = getD (replies p file reply) i none
-
   data Place (reply : Reply) (i : ℕ) : Type 0 where
     at-end : length (replies p file reply) ≤ suc i → Place reply i
-    within : (nos : Nos) (o : List ℕ) → frameAt reply i .frame ≡ segmentFrame p nos o → Place reply i
+    within : (nos : Nos) (o : List ℕ) → packetAt p file reply i .frame ≡ segmentFrame p nos o → Place reply i
 
   abbrev frameIn : FrameResult → Frame
   frameIn (F.Ok f) = f
@@ -125,7 +111,7 @@ module _ (p : Provider) (file : List ℕ) where
       by-test : Dec (i < segmentCount p file nos) → Place (Section nos) i
       by-test (yes lt) =
           within nos (segmentOf p file nos i)
-          (sym (ap frameIn (replies-agree p file (Section nos) e .frame i none h)) ∙ simp (e, lt-ltb i (segmentCount p file nos) lt))
+          (sym (ap frameIn (frame-is p file e (Section nos) i h)) ∙ simp (e, lt-ltb i (segmentCount p file nos) lt))
       by-test (no ge) = at-end (omega (arith, count-is p file (Section nos)))
 
 -- ---- one step
@@ -145,28 +131,28 @@ module _ (file damage : List ℕ) (ca count : ℕ) where
         receiverSaid = v;
       }
 
-  -- the Provider is of this file, and both stations have this common address and no originator
-  pub record Fits (t : TwoParty) : Type 0 where
+  -- the Provider is of this file, the store holds the Receiver's octets, and both stations have this common address and no originator
+  pub record Fits (t : TwoParty) (store : List ℕ) : Type 0 where
     pub agrees : fileAgrees (t .provider) file ≡ true
+    pub holds : storeAgrees (t .receiver) store ≡ true
     pub provider-ca : t .provider .procedure .ca ≡ ca
     pub provider-org : t .provider .procedure .org ≡ 0
     pub receiver-ca : t .receiver .procedure .ca ≡ ca
     pub receiver-org : t .receiver .procedure .org ≡ 0
 
-  -- the exchange after one more frame
-  pub record Next (t : TwoParty) (store : List ℕ) (radio : List Noise) (ps : List Passing) (u : ProviderAnswer) (v : ReceiverAnswer) : Type 0 where
+  -- the exchange after one more frame, x
+  pub record Next (t : TwoParty) (store : List ℕ) (radio : List Noise) (ps : List Passing) (u : ProviderAnswer) (v : ReceiverAnswer) (x : Passing) : Type 0 where
     pub radio′ : List Noise
-    pub passing : Passing
     pub u′ : ProviderAnswer
     pub v′ : ReceiverAnswer
     pub does : step file (ownHeaders ca) (standsFor t store radio ps u v)
-        ≡ standsFor (advanced t file damage store .party) (advanced t file damage store .store) radio′ (ps ++ (passing ∷ [])) u′ v′
+        ≡ standsFor (advanced t file damage store .party) (advanced t file damage store .store) radio′ (ps ++ (x ∷ [])) u′ v′
     pub tuned : Tuned damage count (advanced t file damage store .party .radio) radio′
-    pub fits : Fits (advanced t file damage store .party)
+    pub fits : Fits (advanced t file damage store .party) (advanced t file damage store .store)
 
   pub data Sight (t : TwoParty) (store : List ℕ) (radio : List Noise) (ps : List Passing) (u : ProviderAnswer) (v : ReceiverAnswer) : Type 0 where
-    over : queueOf (t .provider) file (t .receiver) (t .queue) ≡ [] → isOver t file ≡ true → Sight t store radio ps u v
-    going : (x : Passing) (rest : List Passing) → queueOf (t .provider) file (t .receiver) (t .queue) ≡ x ∷ rest → isOver t file ≡ false → Next t store radio ps u v → Sight t store radio ps u v
+    over : queueOf (t .provider) file (t .receiver) (t .queue) ≡ [] → Sight t store radio ps u v
+    going : (x : Passing) (rest : List Passing) → queueOf (t .provider) file (t .receiver) (t .queue) ≡ x ∷ rest → Next t store radio ps u v x → Sight t store radio ps u v
 
   module _ (few : count ≤ 255) (unnamed : Unnamed damage count) (p : Provider) (r : Receiver) (w : Radio)
       (store : List ℕ) (radio : List Noise) (ps : List Passing) (u : ProviderAnswer) (v : ReceiverAnswer)
@@ -196,7 +182,7 @@ module _ (file damage : List ℕ) (ca count : ℕ) where
     still-tuned true = tuned-next damage count few unnamed w radio tuned
     still-tuned false = tuned
 
-    asks : Fits (with-queue Q.Receiver) → Next (with-queue Q.Receiver) store radio ps u v
+    asks : Fits (with-queue Q.Receiver) store → Next (with-queue Q.Receiver) store radio ps u v (untouched byReceiver (bare (awaited r)))
     unfolding advanced
     asks fits =
         let f : Frame = awaited r in
@@ -204,7 +190,6 @@ module _ (file damage : List ℕ) (ca count : ℕ) where
         let same : s .provider .procedure ≡ p .procedure = station-same p file (headerBy (r .procedure) f) U.Nothing (D.Frame f) [] in
         record {
           radio′ = sendingsLeft (isSending (s .answer)) radio;
-          passing = untouched byReceiver (bare f);
           u′ = s .answer;
           v′ = v;
           does = rw (← (fits .receiver-ca), ← (fits .receiver-org)) (provider-moves Q.Receiver (untouched byReceiver (bare f)) s);
@@ -212,6 +197,7 @@ module _ (file damage : List ℕ) (ca count : ℕ) where
           fits =
               record {
                 agrees = agreement-same p file (headerBy (r .procedure) f) U.Nothing (D.Frame f) [] ∙ fits .agrees;
+                holds = fits .holds;
                 provider-ca = ap (λ (z : FileTransferProcedure). z .ca) same ∙ fits .provider-ca;
                 provider-org = ap (λ (z : FileTransferProcedure). z .org) same ∙ fits .provider-org;
                 receiver-ca = fits .receiver-ca;
@@ -246,7 +232,7 @@ module _ (file damage : List ℕ) (ca count : ℕ) where
       rest = Q.Provider reply (i + 1) d
 
       abbrev x : Packet
-      x = frameAt p file reply i
+      x = packetAt p file reply i
 
       abbrev outcome : Outcome
       outcome = receive r store (headerOf ca 0 (x .frame)) U.Nothing (D.Frame (x .frame)) (arriving d i (x .payload))
@@ -255,54 +241,47 @@ module _ (file damage : List ℕ) (ca count : ℕ) where
       apart (at-end h) = last (told-past d (i + 1) (replies p file reply) (omega arith))
       apart (within nos o is) = silent (rw is (segment-silent r store (arriving d i (x .payload)) _ _ _ _ _))
 
-      module _ (fits : Fits replying) (h : i < length (replies p file reply)) where
-        frame-is : replyFrame p file reply i ≡ F.Ok (x .frame)
-        frame-is = replies-agree p file reply (fits .agrees) .frame i (none p file) h
-
+      module _ (fits : Fits replying store) (h : i < length (replies p file reply)) where
         payload-is : payloadOf file (replyPayload p file reply i) ≡ x .payload
         payload-is = replies-agree p file reply (fits .agrees) .payload i (none p file) h
 
-        first-is : queueOf p file r (Q.Provider reply i d) ≡ passingAt d i x ∷ queueOf p file r rest
-        first-is = told-at d i (replies p file reply) (none p file) h ∙ rw (add-one i)
-
         moves : advanced replying file damage store ≡ afterReceiver replying rest outcome
         unfolding advanced
-        moves = rw (frame-is, payload-is, fits .provider-ca, fits .provider-org)
+        moves = rw (frame-is p file (fits .agrees) reply i h, payload-is, fits .provider-ca, fits .provider-org)
 
-        tells : Next replying store radio ps u v
+        heard : Stays r outcome
+        heard = receive-stays r store (fits .holds) (headerOf ca 0 (x .frame)) U.Nothing (D.Frame (x .frame)) (arriving d i (x .payload))
+
+        tells : Next replying store radio ps u v (passingAt d i x)
         tells =
             record {
               radio′ = radio;
-              passing = passingAt d i x;
               u′ = u;
               v′ = outcome .step .answer;
               does =
                   rw moves
-                  (ap (λ (z : List Passing). stepOn file (ownHeaders ca) (standsFor replying store radio ps u v) z) first-is
+                  (ap (λ (z : List Passing). stepOn file (ownHeaders ca) (standsFor replying store radio ps u v) z) (first-is p file r reply i d h)
                   ∙ receiver-moves (Q.Provider reply i d) rest (passingAt d i x) outcome refl (apart (place p file (fits .agrees) reply i h)));
               tuned = rw moves tuned;
               fits =
                   rw moves
                   (record {
                     agrees = fits .agrees;
+                    holds = agreement-stays r store (fits .holds) outcome heard;
                     provider-ca = fits .provider-ca;
                     provider-org = fits .provider-org;
-                    receiver-ca = ap (λ (z : FileTransferProcedure). z .ca) (receive-stays r store (headerOf ca 0 (x .frame)) U.Nothing (D.Frame (x .frame)) (arriving d i (x .payload))) ∙ fits .receiver-ca;
-                    receiver-org = ap (λ (z : FileTransferProcedure). z .org) (receive-stays r store (headerOf ca 0 (x .frame)) U.Nothing (D.Frame (x .frame)) (arriving d i (x .payload))) ∙ fits .receiver-org;
+                    receiver-ca = ap (λ (z : FileTransferProcedure). z .ca) (heard .station) ∙ fits .receiver-ca;
+                    receiver-org = ap (λ (z : FileTransferProcedure). z .org) (heard .station) ∙ fits .receiver-org;
                   });
             }
 
-      reply-sight : Fits replying → Dec (i < length (replies p file reply)) → Sight replying store radio ps u v
-      unfolding isOver nextFrame when
-      reply-sight fits (yes lt) =
-          going (passingAt d i x) (queueOf p file r rest) (first-is fits lt) (simp (fits .agrees, frame-is fits lt)) (tells fits lt)
-      reply-sight fits (no ge) =
-          over (told-past d i (replies p file reply) (omega arith)) (simp (fits .agrees, replies-agree p file reply (fits .agrees) .past i (omega arith)))
+      reply-sight : Fits replying store → Dec (i < length (replies p file reply)) → Sight replying store radio ps u v
+      reply-sight fits (yes lt) = going (passingAt d i x) (queueOf p file r rest) (first-is p file r reply i d lt) (tells fits lt)
+      reply-sight fits (no ge) = over (told-past d i (replies p file reply) (omega arith))
 
-    sight-of : (q : Queue) → Fits (with-queue q) → Sight (with-queue q) store radio ps u v
-    unfolding isOver nextFrame when
-    sight-of Q.Empty fits = over refl (simp (fits .agrees))
-    sight-of Q.Receiver fits = going (untouched byReceiver (bare (awaited r))) [] refl (simp (fits .agrees)) (asks fits)
+    sight-of : (q : Queue) → Fits (with-queue q) store → Sight (with-queue q) store radio ps u v
+    sight-of Q.Empty fits = over refl
+    sight-of Q.Receiver fits = going (untouched byReceiver (bare (awaited r))) [] refl (asks fits)
     sight-of (Q.Provider reply i d) fits = reply-sight reply i d fits (decLt i (length (replies p file reply)))
 
   -- the Receiver's start
@@ -323,5 +302,5 @@ module _ (file damage : List ℕ) (ca count : ℕ) where
 
   -- a record that stands for an exchange: no frame is left of both, or both go on by one
   pub sight : (few : count ≤ 255) (unnamed : Unnamed damage count) (t : TwoParty) (store : List ℕ) (radio : List Noise) (ps : List Passing) (u : ProviderAnswer) (v : ReceiverAnswer)
-      → Tuned damage count (t .radio) radio → Fits t → Sight t store radio ps u v
+      → Tuned damage count (t .radio) radio → Fits t store → Sight t store radio ps u v
   sight few unnamed t store radio ps u v tuned fits = sight-of few unnamed (t .provider) (t .receiver) (t .radio) store radio ps u v tuned (t .queue) fits

@@ -1,12 +1,21 @@
--- What no frame changes of either machine, and that a segment is answered with no frame.
-use Prim.Native.Nat.{ℕ}
-use mathlib.Core.Path.{_≡_, refl}
+-- What no frame changes of either machine, its agreement with the lent file or store among it; and that a segment is answered with no frame.
+use Prim.Native.Nat.{ℕ, _+_, _≤_}
+use mathlib.Core.Path.{_≡_, refl, sym, subst}
 use mathlib.Core.Bool.{Bool, true, false}
-use mathlib.Core.List.{List, []}
+use mathlib.Core.List.{List, [], _++_}
+use native.Mathlib.Nat.{le-trans}
+use native.Mathlib.Omega.{arith}
+use lib.Dec.{leb}
+use lib.ListN.{length, take, drop, length-append, length-drop, take-append-drop}
+use lib.Seq.{length-take-le}
+use borrow.Author.Tests.{leb-true, le-leb}
 use Rattle.laws.specs.When.{when}
 use Rattle.asdu.specs.declared.Nof.{Nof}
 use Rattle.asdu.specs.declared.Nos.{Nos}
+use Rattle.asdu.specs.declared.Lof.{Lof}
 use Rattle.asdu.specs.declared.Los.{Los}
+use Rattle.asdu.specs.declared.Frq.{Frq}
+use Rattle.asdu.specs.declared.Srq.{Srq}
 use Rattle.asdu.specs.declared.Lsq.{Lsq}
 use Rattle.asdu.specs.declared.Chs.{Chs}
 use Rattle.asdu.specs.declared.Scq.{Scq}
@@ -15,7 +24,6 @@ use Rattle.asdu.specs.declared.Header.{Header}
 use Rattle.asdu.specs.declared.UnknownField.{UnknownField}
 use Rattle.asdu.specs.declared.UnknownField.the-variants as U
 use Rattle.asdu.specs.declared.Unspecified.{Unspecified}
-use Rattle.asdu.specs.declared.FtError.the-variants as E
 use Rattle.frame.specs.declared.Frame.{Frame}
 use Rattle.frame.specs.declared.Frame.the-variants as F
 use Rattle.ft.specs.Admission.{unspecified, mirrored, notServed, unservedBy, unserved, admitFrame, onAsdu, matched, answering, onAnswer}
@@ -31,17 +39,22 @@ use Rattle.provide.specs.Record.{fileAgrees, ended, counted}
 use Rattle.provide.specs.Requests.{onSc, onAck, onOurs, onRequest, onRequested, provideAdmitted, provide}
 use Rattle.provide.specs.declared.Provider.{Provider}
 use Rattle.provide.specs.declared.ProviderStep.{ProviderStep}
-use Rattle.receive.specs.Record.{awaited, stepped}
+use Rattle.receive.specs.Record.{storeAgrees, awaited, stepped}
+use Rattle.receive.proofs.Facts as R
+use Rattle.receive.proofs.Starting.{agrees, agrees-held}
 use Rattle.receive.specs.Answers.{Outcome, leaving, onFileReady, onSectionReady, onSectionClose, onFileClose, onClose, onSegment, onAnswered, onReceived, receiveAdmitted, receive, sends}
 use Rattle.receive.specs.declared.Receiver.{Receiver}
-use Rattle.receive.specs.declared.ReceiverAnswer.the-variants as RA
+use Rattle.receive.specs.declared.ReceiverAnswer.{ReceiverAnswer}
 use Rattle.receive.specs.declared.ReceiverStep.{ReceiverStep}
 
--- what holds of both holds of the one that a test chooses
-either : {A : Type 0} (P : A → Type 0) (b : Bool) (x y : A) → P x → P y → P (when b x y)
+-- what holds of both, of the first where the test holds, holds of the one that the test chooses
+if-so : {A : Type 0} (P : A → Type 0) (b : Bool) (x y : A) → (b ≡ true → P x) → P y → P (when b x y)
 unfolding when
-either P true x y h k = h
-either P false x y h k = k
+if-so P true x y h k = h refl
+if-so P false x y h k = k
+
+either : {A : Type 0} (P : A → Type 0) (b : Bool) (x y : A) → P x → P y → P (when b x y)
+either P b x y h k = if-so P b x y (λ e. h) k
 
 -- ---- the Provider: what ending and counting leave as it is, every frame does
 
@@ -101,61 +114,98 @@ pub agreement-same : (p : Provider) (file : List ℕ) (h : Header) (unknown : Un
 unfolding fileAgrees
 agreement-same p file = provide-same (λ (q : Provider). fileAgrees q file) p refl refl file
 
--- ---- the Receiver: its station stays
+-- ---- the Receiver: its station stays, and the store still holds its octets
 
 module _ (r : Receiver) where
-  record Stays (s : ReceiverStep) : Type 0 where
-    stays : s .receiver .procedure ≡ r .procedure
+  pub record Stays (o : Outcome) : Type 0 where
+    pub station : o .step .receiver .procedure ≡ r .procedure
+    pub object : o .step .receiver .ioa ≡ r .ioa
+    pub within : o .step .receiver .kept + o .step .receiver .staged ≤ length (o .store)
 
-  as-it-was : (s : ReceiverStep) → s .receiver .procedure ≡ r .procedure → Stays s
-  as-it-was s e = record { stays = e }
+  -- a segment, of a store told as what is accepted, what is under way and the rest
+  segment-within : (acc sec rest o : List ℕ) → r .kept ≡ length acc → r .staged ≡ length sec → Stays (onSegment r (acc ++ (sec ++ rest)) o)
+  segment-within acc sec rest o kept staged =
+      rw (R.segment r acc sec rest kept staged o)
+      (if-so Stays (leb (length o) (length rest)) _ _
+      (λ e.
+      record {
+        station = refl;
+        object = refl;
+        within = simp (length-append, length-drop) (omega (arith, leb-true (length o) (length rest) e));
+      })
+      (record { station = refl; object = refl; within = simp length-append (omega (arith, kept, staged)) }))
 
-  close-stays : (store : List ℕ) (nos : Nos) (lsq : Lsq) (chs : Chs) → Stays (onClose r store nos lsq chs)
+  segment-stays : (store o : List ℕ) → r .kept + r .staged ≤ length store → Stays (onSegment r store o)
+  segment-stays store o held =
+      let behind : List ℕ = drop (r .kept) store in
+      let whole : take (r .kept) store ++ (take (r .staged) behind ++ drop (r .staged) behind) ≡ store =
+      rw (take-append-drop (r .staged) (drop (r .kept) store)) (take-append-drop (r .kept) store) in
+      let kept : r .kept ≡ length (take (r .kept) store) = sym (length-take-le (r .kept) store (omega arith)) in
+      let staged : r .staged ≡ length (take (r .staged) behind) = sym (length-take-le (r .staged) behind (simp length-drop (omega arith))) in
+      subst (λ (z : List ℕ). Stays (onSegment r z o)) whole (segment-within (take (r .kept) store) (take (r .staged) behind) (drop (r .staged) behind) o kept staged)
+
+module _ (r : Receiver) (store : List ℕ) (agreed : storeAgrees r store ≡ true) where
+  -- no more octets are held than before
+  no-more : (s : ReceiverStep) → s .receiver .procedure ≡ r .procedure → s .receiver .ioa ≡ r .ioa
+      → s .receiver .kept + s .receiver .staged ≤ r .kept + r .staged → Stays r (leaving store s)
+  no-more s p i fewer = record { station = p; object = i; within = le-trans fewer (agrees-held r store agreed) }
+
+  same : (a : ReceiverAnswer) → Stays r (leaving store (stepped r a))
+  same a = no-more _ refl refl (omega arith)
+
+  -- a step that leaves the store as it is
+  record StaysAt (s : ReceiverStep) : Type 0 where
+    at : Stays r (leaving store s)
+
+  kept-at : (s : ReceiverStep) → s .receiver .procedure ≡ r .procedure → s .receiver .ioa ≡ r .ioa
+      → s .receiver .kept + s .receiver .staged ≤ r .kept + r .staged → StaysAt s
+  kept-at s p i fewer = record { at = no-more s p i fewer }
+
+  file-ready-stays : (lof : Lof) (frq : Frq) → StaysAt (onFileReady r lof frq)
+  unfolding onFileReady
+  file-ready-stays lof frq = either StaysAt _ _ _ (kept-at _ refl refl (omega arith)) (kept-at _ refl refl (omega arith))
+
+  section-ready-stays : (nos : Nos) (srq : Srq) → StaysAt (onSectionReady r nos srq)
+  unfolding onSectionReady
+  section-ready-stays nos srq = either StaysAt _ _ _ (kept-at _ refl refl (omega arith)) (kept-at _ refl refl (omega arith))
+
+  close-stays : (nos : Nos) (lsq : Lsq) (chs : Chs) → StaysAt (onClose r store nos lsq chs)
   unfolding onClose onSectionClose onFileClose
-  close-stays store nos lsq chs =
-      either Stays _ _ _ (either Stays _ _ _ (as-it-was _ refl) (as-it-was _ refl))
-      (either Stays _ _ _ (either Stays _ _ _ (as-it-was _ refl) (as-it-was _ refl)) (as-it-was _ refl))
+  close-stays nos lsq chs =
+      either StaysAt _ _ _ (either StaysAt _ _ _ (kept-at _ refl refl (omega arith)) (kept-at _ refl refl (omega arith)))
+      (either StaysAt _ _ _ (either StaysAt _ _ _ (kept-at _ refl refl (omega arith)) (kept-at _ refl refl (omega arith))) (kept-at _ refl refl (omega arith)))
 
-  record StaysAfter (o : Outcome) : Type 0 where
-    after : Stays (o .step)
+  answered-stays : (payload : List ℕ) (f : Frame) → Stays r (onAnswered r store payload f)
+  answered-stays payload (F.FileReady ioa nof lof frq) = file-ready-stays lof frq .at
+  answered-stays payload (F.SectionReady ioa nof nos lof srq) = section-ready-stays nos srq .at
+  answered-stays payload (F.Sc ioa nof nos scq) = same _
+  answered-stays payload (F.LastSection ioa nof nos lsq chs) = close-stays nos lsq chs .at
+  answered-stays payload (F.Ack ioa nof nos afq) = same _
+  answered-stays payload (F.Segment ioa nof nos los) = segment-stays r store payload (agrees-held r store agreed)
+  answered-stays payload (F.Directory ioa cause) = same _
+  answered-stays payload (F.QueryLog ioa nof start stop) = same _
 
-  with-store : (o : Outcome) → Stays (o .step) → StaysAfter o
-  with-store o h = record { after = h }
+  received-stays : (payload : List ℕ) (x : Received) → Stays r (onReceived r store payload x)
+  received-stays payload (D.Frame f) = answered-stays payload f
+  received-stays payload D.Undecodable = same _
 
-  unchanged : (o : Outcome) → o .step .receiver .procedure ≡ r .procedure → StaysAfter o
-  unchanged o e = with-store o (as-it-was _ e)
+  reaction-stays : (payload : List ℕ) (received : Received) (x : Reaction) → Stays r (receiveAdmitted r store payload received x)
+  reaction-stays payload received A.Requested = same _
+  reaction-stays payload received A.Answered = received-stays payload received
+  reaction-stays payload received (A.Refused cause mirror) = no-more _ refl refl (omega arith)
+  reaction-stays payload received (A.Discard why) = same _
+  reaction-stays payload received A.Other = same _
+  reaction-stays payload received (A.Err e) = same _
 
-  answered-stays : (store payload : List ℕ) (f : Frame) → StaysAfter (onAnswered r store payload f)
-  unfolding onFileReady onSectionReady onSegment
-  answered-stays store payload (F.FileReady ioa nof lof frq) = with-store _ (either Stays _ _ _ (as-it-was _ refl) (as-it-was _ refl))
-  answered-stays store payload (F.SectionReady ioa nof nos lof srq) = with-store _ (either Stays _ _ _ (as-it-was _ refl) (as-it-was _ refl))
-  answered-stays store payload (F.Sc ioa nof nos scq) = unchanged _ refl
-  answered-stays store payload (F.LastSection ioa nof nos lsq chs) = with-store _ (close-stays store nos lsq chs)
-  answered-stays store payload (F.Ack ioa nof nos afq) = unchanged _ refl
-  answered-stays store payload (F.Segment ioa nof nos los) = either StaysAfter _ _ _ (unchanged _ refl) (unchanged _ refl)
-  answered-stays store payload (F.Directory ioa cause) = unchanged _ refl
-  answered-stays store payload (F.QueryLog ioa nof start stop) = unchanged _ refl
-
-  received-stays : (store payload : List ℕ) (x : Received) → StaysAfter (onReceived r store payload x)
-  received-stays store payload (D.Frame f) = answered-stays store payload f
-  received-stays store payload D.Undecodable = unchanged _ refl
-
-  reaction-stays : (store payload : List ℕ) (received : Received) (x : Reaction) → StaysAfter (receiveAdmitted r store payload received x)
-  reaction-stays store payload received A.Requested = unchanged _ refl
-  reaction-stays store payload received A.Answered = received-stays store payload received
-  reaction-stays store payload received (A.Refused cause mirror) = unchanged _ refl
-  reaction-stays store payload received (A.Discard why) = unchanged _ refl
-  reaction-stays store payload received A.Other = unchanged _ refl
-  reaction-stays store payload received (A.Err e) = unchanged _ refl
-
-  pub receive-stays : (store : List ℕ) (h : Header) (unknown : UnknownField) (received : Received) (beside : List ℕ)
-      → receive r store h unknown received beside .step .receiver .procedure ≡ r .procedure
+  pub receive-stays : (h : Header) (unknown : UnknownField) (received : Received) (beside : List ℕ) → Stays r (receive r store h unknown received beside)
   unfolding receive
-  receive-stays store h unknown received beside =
-      let o : StaysAfter (receive r store h unknown received beside) =
-      either StaysAfter _ _ _ (either StaysAfter _ _ _ (unchanged _ refl) (reaction-stays store beside received (onAnswer (r .procedure) h unknown received beside (awaited r))))
-      (unchanged (leaving store (stepped r (RA.Err E.RecordMismatch))) refl) in
-      o .after .stays
+  receive-stays h unknown received beside =
+      either (Stays r) _ _ _ (either (Stays r) _ _ _ (same _) (reaction-stays beside received (onAnswer (r .procedure) h unknown received beside (awaited r)))) (same _)
+
+  -- so they agree again
+  pub agreement-stays : (o : Outcome) → Stays r o → storeAgrees (o .step .receiver) (o .store) ≡ true
+  unfolding storeAgrees when
+  agreement-stays o s = let g = agrees r store agreed in rw (s .station, s .object) (simp (g .settings, g .object, le-leb _ _ (s .within)))
 
 -- ---- a segment is answered with no frame
 

@@ -1,19 +1,18 @@
 -- The run is the exchange: frame by frame over the record, it ends as the exchange does after as many steps as the budget.
 use Prim.Native.Nat.{ℕ, zero, suc, _+_, _≤_}
-use mathlib.Core.Path.{_≡_, refl, sym, ap, _∙_}
+use mathlib.Core.Path.{_≡_, refl, sym, ap, _∙_, subst}
 use mathlib.Core.Bool.{Bool, true, false}
 use mathlib.Core.List.{List, [], _∷_, _++_}
 use native.Mathlib.Omega.{arith}
 use lib.Dec.{leb}
 use lib.ListN.{length, length-append}
-use borrow.Author.Tests.{leb-true}
+use borrow.Author.Tests.{leb-true, le-leb}
 use Rattle.laws.specs.When.{when}
 use Rattle.asdu.specs.Sizes.{sizesRight, maxIoa}
 use Rattle.asdu.specs.declared.FtError.the-variants as E
 use Rattle.ft.specs.Directions.{otherRole}
 use Rattle.ft.specs.Procedure.{addressRight, addressed}
 use Rattle.ft.specs.Building.{built}
-use Rattle.ft.specs.declared.FileTransferProcedure.{FileTransferProcedure}
 use Rattle.ft.specs.declared.AsduResult.{AsduResult}
 use Rattle.ft.specs.declared.AsduResult.the-variants as A
 use Rattle.provide.specs.Sections.{sectionLength, sectionCount}
@@ -23,7 +22,8 @@ use Rattle.provide.specs.declared.ProviderResult.the-variants as PM
 use Rattle.provide.specs.declared.Provider.{Provider}
 use Rattle.provide.proofs.Making.{made, made-agrees}
 use Rattle.provide.proofs.SectionLaws.{some-section, few-sections}
-use Rattle.receive.specs.Record.{freshReceiver, receiverMade, storeAgrees, select, stepped, startedWith, started}
+use Rattle.receive.specs.Record.{freshReceiver, receiverMade, storeAgrees, sending, opening, select, stepped, startedWith, started}
+use Rattle.receive.proofs.Making as R
 use Rattle.receive.specs.declared.Receiver.{Receiver}
 use Rattle.receive.specs.declared.ReceiverAnswer.{ReceiverAnswer}
 use Rattle.receive.specs.declared.ReceiverAnswer.the-variants as RA
@@ -33,6 +33,8 @@ use Rattle.exchange.specs.Transfer.{inOrder}
 use Rattle.exchange.specs.Damaging.{scriptRadio}
 use Rattle.exchange.proofs.Budget.{stays}
 use Rattle.twoparty.specs.Party.{stationOf, startedParty, advanced}
+use Rattle.twoparty.specs.Shown.{firstOf}
+use Rattle.twoparty.proofs.Standing.{next-shown}
 use Rattle.run.specs.Loop.{Ran, isOver, whole, ranOn}
 use Rattle.radio.specs.Radio.{firstSection, allHaveOctets}
 use Rattle.run.specs.Run.{ownHeaders, exchangeOf, ending}
@@ -47,29 +49,29 @@ module _ (file damage : List ℕ) (ca count : ℕ) (few : count ≤ 255) (none :
   unfoldable pub Ends : ℕ → Type 0
   Ends budget =
       (t : TwoParty) (store : List ℕ) (radio : List Noise) (ps : List Passing) (u : ProviderAnswer) (v : ReceiverAnswer)
-      → Tuned damage count (t .radio) radio → Fits file damage ca count t
+      → Tuned damage count (t .radio) radio → Fits file damage ca count t store
       → ranOn budget (length ps) t file damage store ≡ ending (run file (ownHeaders ca) budget (standsFor file damage ca count t store radio ps u v))
 
   spends : Ends zero
-  unfolding Ends when
+  unfolding Ends isOver when
   spends t store radio ps u v tuned fits = by-sight (sight file damage ca count few none t store radio ps u v tuned fits)
     where
       by-sight : Sight file damage ca count t store radio ps u v → ranOn zero (length ps) t file damage store ≡ ending (standsFor file damage ca count t store radio ps u v)
-      by-sight (over empty is) = rw (is, empty)
-      by-sight (going x rest more is next) = rw (is, more)
+      by-sight (over empty) = rw (next-shown t file (fits .agrees), empty)
+      by-sight (going x rest more next) = rw (next-shown t file (fits .agrees), more)
 
   goes-on : (budget : ℕ) → Ends budget → Ends (suc budget)
-  unfolding Ends when
+  unfolding Ends isOver when
   goes-on budget later t store radio ps u v tuned fits = by-sight (sight file damage ca count few none t store radio ps u v tuned fits)
     where
       by-sight : Sight file damage ca count t store radio ps u v
           → ranOn (suc budget) (length ps) t file damage store ≡ ending (run file (ownHeaders ca) (suc budget) (standsFor file damage ca count t store radio ps u v))
-      by-sight (over empty is) = rw (is, stays file (ownHeaders ca) (suc budget) (standsFor file damage ca count t store radio ps u v) empty, empty)
-      by-sight (going x rest more is next) =
-          let one : length (ps ++ (next .passing ∷ [])) ≡ length ps + 1 = length-append ps (next .passing ∷ []) in
-          rw is
+      by-sight (over empty) = rw (next-shown t file (fits .agrees), stays file (ownHeaders ca) (suc budget) (standsFor file damage ca count t store radio ps u v) empty, empty)
+      by-sight (going x rest more next) =
+          let one : length (ps ++ (x ∷ [])) ≡ length ps + 1 = length-append ps (x ∷ []) in
+          rw (next-shown t file (fits .agrees) ∙ ap firstOf more)
           (ap (λ (n : ℕ). ranOn budget n (advanced t file damage store .party) file damage (advanced t file damage store .store)) (sym one)
-          ∙ later (advanced t file damage store .party) (advanced t file damage store .store) (next .radio′) (ps ++ (next .passing ∷ [])) (next .u′) (next .v′) (next .tuned) (next .fits)
+          ∙ later (advanced t file damage store .party) (advanced t file damage store .store) (next .radio′) (ps ++ (x ∷ [])) (next .u′) (next .v′) (next .tuned) (next .fits)
           ∙ ap (λ (e : Exchange). ending (run file (ownHeaders ca) budget e)) (sym (next .does)))
 
   pub ran-is : (budget : ℕ) → Ends budget
@@ -78,18 +80,23 @@ module _ (file damage : List ℕ) (ca count : ℕ) (few : count ≤ 255) (none :
 
 -- ---- from the start
 
--- a start leaves the station as it is
-startedWith-stays : (r : Receiver) (a : AsduResult) → startedWith r a .receiver .procedure ≡ r .procedure
-startedWith-stays r (A.Ok a) = refl
-startedWith-stays r (A.Err e) = refl
+-- a start leaves all of the record as it is but what was sent
+module _ {B : Type 0} (g : Receiver → B) (r : Receiver) (same : g (sending r opening) ≡ g r) where
+  startedWith-same : (a : AsduResult) → g (startedWith r a .receiver) ≡ g r
+  startedWith-same (A.Ok a) = same
+  startedWith-same (A.Err e) = refl
 
-start-stays : (r : Receiver) (store : List ℕ) → started r store .receiver .procedure ≡ r .procedure
-unfolding started when
-start-stays r store = by-test (storeAgrees r store)
-  where
-    by-test : (b : Bool) → when b (startedWith r (built (r .procedure) (select r) [])) (stepped r (RA.Err E.RecordMismatch)) .receiver .procedure ≡ r .procedure
-    by-test true = startedWith-stays r (built (r .procedure) (select r) [])
-    by-test false = refl
+  start-same : (store : List ℕ) → g (started r store .receiver) ≡ g r
+  unfolding started when
+  start-same store = by-test (storeAgrees r store)
+    where
+      by-test : (b : Bool) → g (when b (startedWith r (built (r .procedure) (select r) [])) (stepped r (RA.Err E.RecordMismatch)) .receiver) ≡ g r
+      by-test true = startedWith-same (built (r .procedure) (select r) [])
+      by-test false = refl
+
+start-agrees : (r : Receiver) (store : List ℕ) → storeAgrees r store ≡ true → storeAgrees (started r store .receiver) store ≡ true
+unfolding storeAgrees
+start-agrees r store e = start-same (λ (z : Receiver). storeAgrees z store) r refl store ∙ e
 
 module _ (s : Settings) (file damage store : List ℕ) where
   -- what the tests before any frame accept
@@ -119,25 +126,42 @@ module _ (s : Settings) (file damage store : List ℕ) where
     unfolding receiverMade when
     receiver-made = simp (a .widths, a .addresses)
 
-    begins-fit : Fits file damage (s .«common_address») (sectionCount (length file)) beginning
+    receiver-agrees : storeAgrees receiving store ≡ true
+    unfolding storeAgrees when
+    receiver-agrees =
+        let m = R.made (stationOf s (otherRole (s .role))) (s .ioa) (s .nof) receiving receiver-made in
+        simp (m .settings, m .object, le-leb 0 (length store) (omega arith))
+
+    begins-fit : Fits file damage (s .«common_address») (sectionCount (length file)) beginning store
     begins-fit =
         record {
           agrees = made-agrees (stationOf s (s .role)) (s .ioa) (s .nof) file providing (made (stationOf s (s .role)) (s .ioa) (s .nof) (length file) providing provider-made);
+          holds = start-agrees receiving store receiver-agrees;
           provider-ca = refl;
           provider-org = refl;
-          receiver-ca = ap (λ (z : FileTransferProcedure). z .ca) (start-stays receiving store);
-          receiver-org = ap (λ (z : FileTransferProcedure). z .org) (start-stays receiving store);
+          receiver-ca = start-same (λ (z : Receiver). z .procedure .ca) receiving refl store;
+          receiver-org = start-same (λ (z : Receiver). z .procedure .org) receiving refl store;
         }
 
     first-tuned : (n : ℕ) → sectionCount (length file) ≡ n → Tuned damage (sectionCount (length file)) (firstSection damage) (inOrder (scriptRadio damage 1 (sectionCount (length file))))
     first-tuned zero e = absurd (omega (arith, some-section (length file)))
     first-tuned (suc k) e = tuned-first damage (sectionCount (length file)) k e
 
+    -- what holds after so many frames of the exchange that the record before any frame stands for holds of this one
+    pub from-start : (P : Exchange → Type 0) (frames : ℕ)
+        → ((radio : List Noise) (u : ProviderAnswer) (v : ReceiverAnswer) → Tuned damage (sectionCount (length file)) (beginning .radio) radio
+        → Fits file damage (s .«common_address») (sectionCount (length file)) beginning store
+        → P (run file (ownHeaders (s .«common_address»)) frames (standsFor file damage (s .«common_address») (sectionCount (length file)) beginning store radio [] u v)))
+        → P (exchangeOf s file damage store frames)
+    from-start P frames h =
+        let radio : List Noise = inOrder (scriptRadio damage 1 (sectionCount (length file))) in
+        subst (λ (e : Exchange). P (run file (ownHeaders (s .«common_address»)) frames e))
+        (sym (start-stands file damage (s .«common_address») (sectionCount (length file)) providing receiving store radio))
+        (h radio _ _ (first-tuned (sectionCount (length file)) refl) begins-fit)
+
     -- the run over the record is the exchange
     pub run-is : (budget : ℕ) → ranOn budget 0 beginning file damage store ≡ ending (exchangeOf s file damage store budget)
     unfolding Ends
     run-is budget =
-        ran-is file damage (s .«common_address») (sectionCount (length file)) (few-sections (length file)) (unnamed file damage (a .named)) budget
-        beginning store (inOrder (scriptRadio damage 1 (sectionCount (length file)))) [] _ _ (first-tuned (sectionCount (length file)) refl) begins-fit
-        ∙ ap (λ (e : Exchange). ending (run file (ownHeaders (s .«common_address»)) budget e))
-        (sym (start-stands file damage (s .«common_address») (sectionCount (length file)) providing receiving store (inOrder (scriptRadio damage 1 (sectionCount (length file))))))
+        from-start (λ (e : Exchange). ranOn budget 0 beginning file damage store ≡ ending e) budget
+        (λ radio. ran-is file damage (s .«common_address») (sectionCount (length file)) (few-sections (length file)) (unnamed file damage (a .named)) budget beginning store radio [])

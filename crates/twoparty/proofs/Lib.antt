@@ -1,1 +1,2 @@
 pub mod Reaches
+pub mod Standing

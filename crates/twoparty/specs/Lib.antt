@@ -1,1 +1,2 @@
 pub mod Party
+pub mod Shown
