@@ -10,7 +10,7 @@ use run::RunResult;
 use script::Outline;
 use script::ScriptResult;
 use script::read;
-use twoparty::Passing;
+use twoparty::NextFrame;
 use twoparty::Settings;
 use twoparty::TwoParty;
 use twoparty::TwoPartyResult;
@@ -69,11 +69,11 @@ fn print_frame(sender: Sender, frame: Frame) {
     print_line(&out, count);
 }
 
-fn print_passing(passing: Passing) {
+fn print_passing(passing: NextFrame) {
     match passing {
-        Passing::Nothing => {}
-        Passing::Frame { sender, frame } => print_frame(sender, frame),
-        Passing::Err(error) => refused(error),
+        NextFrame::Nothing => {}
+        NextFrame::Frame { sender, frame } => print_frame(sender, frame),
+        NextFrame::Err(error) => refused(error),
     }
 }
 

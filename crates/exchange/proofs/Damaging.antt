@@ -9,10 +9,10 @@ use Rattle.lists.specs.Parts.{joined}
 use Rattle.lists.proofs.Parts.{Fit, length-parts, joined-all, fit-all}
 use Rattle.checksum.specs.Checksum.{octetSum, checksum}
 use Rattle.provide.specs.Sections.{sectionLength, sectionCount, sections, segments}
-use Rattle.exchange.specs.Transfer.{Sending, arrived, AllDamaged, Damaged, Radio}
+use Rattle.exchange.specs.Transfer.{FatesOf, arrived, AllDamaged, Damaged, DamagedThenIntact}
 use Rattle.exchange.specs.Damaging.{raised, unhurt, hurt, namings, scriptRadio, Nameable}
 
-sending-unhurt : (os : List (List ℕ)) → Sending os (unhurt os)
+sending-unhurt : (os : List (List ℕ)) → FatesOf os (unhurt os)
 sending-unhurt [] = tt
 sending-unhurt (o ∷ os) = (refl, sending-unhurt os)
 
@@ -24,7 +24,7 @@ length-raised : (o : List ℕ) → length (raised o) ≡ length o
 length-raised [] = refl
 length-raised (x ∷ o) = refl
 
-sending-hurt : (os : List (List ℕ)) → Sending os (hurt os)
+sending-hurt : (os : List (List ℕ)) → FatesOf os (hurt os)
 sending-hurt [] = tt
 sending-hurt (o ∷ os) = (length-raised o, sending-unhurt os)
 
@@ -56,11 +56,11 @@ module _ (limit : ℕ) (pos : 0 < limit) where
   arrived-whole o = arrived-unhurt (segments limit o) ∙ joined-all limit pos o
 
   -- the radio of a script is one that the theorem speaks of
-  pub script-radio : (damage : List ℕ) (nos : ℕ) (os : List (List ℕ)) → Nameable damage nos os → Radio limit os (scriptRadio damage nos (length os))
+  pub script-radio : (damage : List ℕ) (nos : ℕ) (os : List (List ℕ)) → Nameable damage nos os → DamagedThenIntact limit os (scriptRadio damage nos (length os))
   script-radio damage nos [] named = tt
   script-radio damage nos (o ∷ os) named =
       (all-damaged o (namings nos damage) (named .0), (sending-unhurt (segments limit o), arrived-whole o), script-radio damage (suc nos) os (named .1))
 
-  pub script-sendings : (damage file : List ℕ) → Nameable damage 1 (sections file) → Radio limit (sections file) (scriptRadio damage 1 (sectionCount (length file)))
+  pub script-sendings : (damage file : List ℕ) → Nameable damage 1 (sections file) → DamagedThenIntact limit (sections file) (scriptRadio damage 1 (sectionCount (length file)))
   unfolding sections
   script-sendings damage file named = rw (length-parts (sectionCount (length file)) (sectionLength (length file)) file) at (script-radio damage 1 (sections file) named)

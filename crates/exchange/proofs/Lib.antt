@@ -4,7 +4,7 @@ pub mod Steps
 pub mod Sendings
 pub mod Sections
 pub mod Theorem
-pub mod Radio
+pub mod Begins
 pub mod Budget
 pub mod Damaging
 pub mod Script

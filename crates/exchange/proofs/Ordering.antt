@@ -18,12 +18,12 @@ module _ (m : Transfer) where
   along-at (suc n) (suc k) e along h = along-at n k (step (m .file) (m .headers) e) (along .1) (omega arith)
 
   -- with no frame left none begins
-  ended : (e : Exchange) → e .queue ≡ [] → InOrder m e
-  ended e over = subst (λ (q : List Passing). QueueInOrder m e q) (sym over) tt
+  none-begins : (e : Exchange) → e .queue ≡ [] → InOrder m e
+  none-begins e over = subst (λ (q : List Passing). QueueInOrder m e q) (sym over) tt
 
   pub in-order : (k : ℕ) → InOrder m (exchanged m k)
   in-order k = by-test (decLt k (all-pass m .0))
     where
       by-test : Dec (k < all-pass m .0) → InOrder m (exchanged m k)
       by-test (yes lt) = along-at (all-pass m .0) k _ (all-pass m .2) lt
-      by-test (no ge) = ended (exchanged m k) (B.whole m k (omega (arith, all-pass m .1)) .over)
+      by-test (no ge) = none-begins (exchanged m k) (B.whole m k (omega (arith, all-pass m .1)) .over)

@@ -18,18 +18,18 @@ use Rattle.ft.specs.Building.{framed, built}
 use Rattle.ft.specs.declared.Role.the-variants.{Controlling, Controlled}
 use Rattle.provide.specs.Sections.{sectionLength, sectionCount, sections, sectionOctets, segments}
 use Rattle.provide.specs.Record.{freshProvider, providerMade, fileAgrees}
-use Rattle.provide.specs.Requests.{onSc, after, onAck, isOurs, onRequest, provide}
+use Rattle.provide.specs.Requests.{onSc, afterSection, onAck, isOurs, onRequest, provide}
 use Rattle.receive.specs.Record.{freshReceiver, receiverMade, storeAgrees, awaited, started}
 use Rattle.store.specs.Store.{written}
 use Rattle.receive.specs.Answers.{onFileReady, onSectionReady, onSectionClose, onFileClose, onClose, onSegment, receive, toSend}
-use Rattle.exchange.specs.Exchange.{Side, byProvider, byReceiver, Passing}
-use Rattle.exchange.specs.Transfer.{Sound, senderOf, Radio, Transfer, Transferred, providerFrames, receiverFrames, exchanged}
+use Rattle.exchange.specs.Exchange.{Side, byProvider, byReceiver, Passing, ownHeaders}
+use Rattle.exchange.specs.Transfer.{Sound, senderOf, DamagedThenIntact, Transfer, Transferred, providerFrames, receiverFrames, exchanged}
 use Rattle.exchange.specs.Lines.{lineOf}
-use Rattle.exchange.specs.Script.{station, ownHeaders, scriptFile, damagedOnce, scriptLines}
+use Rattle.exchange.specs.Script.{station, scriptFile, damagedOnce, scriptLines}
 use Rattle.exchange.proofs.Damaging.{script-sendings}
 use Rattle.exchange.proofs.Theorem.{two-party-transfer}
 
-pub script-sound : (before : List Passing) (x : Passing) (s : Side) → Sound (senderOf (station Controlled) (station Controlling) s) (x .packet .frame) (ownHeaders before x)
+pub script-sound : (before : List Passing) (x : Passing) (s : Side) → Sound (senderOf (station Controlled) (station Controlling) s) (x .packet .frame) (ownHeaders 1 before x)
 unfolding maxCommonAddress when
 script-sound before x byProvider = record { type = refl; cause = refl; originator = refl; positive = refl; common = lit< tt }
 script-sound before x byReceiver = record { type = refl; cause = refl; originator = refl; positive = refl; common = lit< tt }
@@ -38,7 +38,7 @@ pub limit-is : segmentLimit conventional ≡ 236
 unfolding segmentLimit elementRoom headerLen
 limit-is = refl
 
-pub script-damage : Radio (segmentLimit conventional) (sections scriptFile) damagedOnce
+pub script-damage : DamagedThenIntact (segmentLimit conventional) (sections scriptFile) damagedOnce
 unfolding sections sectionLength sectionCount divCeil when
 script-damage = script-sendings (segmentLimit conventional) (rw limit-is (lit< tt)) (1 ∷ []) scriptFile (λ h. lit< tt, tt)
 
@@ -62,7 +62,7 @@ script =
       provider-serves = refl;
       receiver-serves = refl;
       room = lit≤ tt;
-      headers = ownHeaders;
+      headers = ownHeaders 1;
       sound = λ before x. script-sound before x (x .sender);
       radio = damagedOnce;
       damage = script-damage;
@@ -80,5 +80,5 @@ script-transferred = two-party-transfer script
 
 -- its output, line by line
 pub script-output : map lineOf (exchanged script 13 .passed) ≡ scriptLines
-unfolding script when divCeil scqInRange afqInRange losInRange isMirror within sizesRight headerLen maxIoa maxCommonAddress elementRoom segmentLimit scCause isFileType segmentInRange calledSection oneOf fileAnswered sectionAnswered scAnswered ackAnswered namesAgree answersTo octetSum checksum usesFunction addressRight settled serves frameAgrees admitFrame onAsdu matched onAnswer addressed framed built sectionLength sectionCount sections sectionOctets segments fileAgrees onSc after onAck isOurs onRequest provide storeAgrees written awaited started onFileReady onSectionReady onSectionClose onFileClose onClose onSegment receive toSend
+unfolding script when divCeil scqInRange afqInRange losInRange isMirror within sizesRight headerLen maxIoa maxCommonAddress elementRoom segmentLimit scCause isFileType segmentInRange calledSection oneOf fileAnswered sectionAnswered scAnswered ackAnswered namesAgree answersTo octetSum checksum usesFunction addressRight settled serves frameAgrees admitFrame onAsdu matched onAnswer addressed framed built sectionLength sectionCount sections sectionOctets segments fileAgrees onSc afterSection onAck isOurs onRequest provide storeAgrees written awaited started onFileReady onSectionReady onSectionClose onFileClose onClose onSegment receive toSend
 script-output = refl

@@ -36,7 +36,7 @@ use Rattle.receive.specs.declared.Length.the-variants.{Known}
 use Rattle.receive.specs.declared.ReceiverAnswer.{ReceiverAnswer}
 use Rattle.receive.specs.declared.ReceiverAnswer.the-variants as RA
 use Rattle.exchange.specs.Exchange.{byProvider, byReceiver, Noise, Passing, flown, Exchange, provided, sentBy}
-use Rattle.exchange.specs.Transfer.{Transfer, Sendings, AllDamaged, Intact, arrived, Radio, inOrder, sendingFrames, damagedSendings, providerFrames, receiverFrames}
+use Rattle.exchange.specs.Transfer.{Transfer, Sendings, AllDamaged, Intact, arrived, DamagedThenIntact, inOrder, sendingFrames, damagedSendings, providerFrames, receiverFrames}
 use Rattle.exchange.specs.Order.{AnswersInOrder, sendingsBefore}
 use Rattle.exchange.proofs.Hearing.{P, R, short, provider-fresh, receiver-fresh, hears-ack}
 use Rattle.exchange.proofs.Asking.{sendingsFrom, sendings-split, asks-none, asks-own}
@@ -223,7 +223,7 @@ module _ (m : Transfer) where
       (acc rem rest : List ℕ) (t : List Passing) (u : ProviderAnswer) (v : ReceiverAnswer) (s : Sent)
       → drop j (m .radio) ≡ xs → j + suc c ≡ count → drop (j * size) (m .file) ≡ rem → acc ++ rem ≡ m .file → length rem ≤ length rest → drop (length rem) rest ≡ beyond
       → sendingsFrom (suc j) t ≡ 0 → Awaits s (number j)
-      → Radio (limit m) (parts (suc c) size rem) xs
+      → DamagedThenIntact (limit m) (parts (suc c) size rem) xs
       → sentBy byProvider t + (suc c + sendingFrames (limit m) (parts (suc c) size rem) xs) + 1 ≡ providerFrames m
       → sentBy byReceiver t + (2 * suc c + damagedSendings xs) + 1 ≡ receiverFrames m
       → Ends m (Ex m (tell m (sectionReady (P m) (m .file) (number j)) ∷ []) s (Known (length (m .file))) acc [] rest (inOrder xs) t u v)

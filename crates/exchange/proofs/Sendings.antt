@@ -34,15 +34,15 @@ use Rattle.receive.specs.declared.ReceiverAnswer.the-variants as RA
 use Rattle.receive.specs.declared.Sent.{Sent}
 use Rattle.receive.proofs.Facts.{section-accepted, section-dropped}
 use Rattle.exchange.specs.Exchange.{Fate, lost, arrives, Passing, Noise, flown, payloads, nextSending, sendingsLeft}
-use Rattle.exchange.specs.Transfer.{Transfer, Sending, arrived, Damaged, AllDamaged}
+use Rattle.exchange.specs.Transfer.{Transfer, FatesOf, arrived, Damaged, AllDamaged}
 use Rattle.exchange.specs.Order.{Meets, sendingsBefore}
-use Rattle.exchange.proofs.Radio.{payloads-behind}
+use Rattle.exchange.proofs.Begins.{payloads-behind}
 use Rattle.exchange.proofs.Hearing.{P, R}
 use Rattle.exchange.proofs.Asking.{asks-own}
 use Rattle.exchange.proofs.Steps.{Adds, Ends, Ex, sc, ack, asking, ask, tell, asked-ack, takes, loses, gains}
 
 -- no more arrives than was sent
-arrived-fits : (os : List (List ℕ)) (fs : List Fate) → Sending os fs → length (arrived fs) ≤ length (joined os)
+arrived-fits : (os : List (List ℕ)) (fs : List Fate) → FatesOf os fs → length (arrived fs) ≤ length (joined os)
 arrived-fits [] [] h = omega arith
 arrived-fits [] (f ∷ fs) h = absurd h
 arrived-fits (o ∷ os) [] h = absurd h
@@ -79,7 +79,7 @@ module _ (m : Transfer) where
     unfoldable Pass : List (List ℕ) → List Fate → Type 0
     Pass os fs =
         (sec rest : List ℕ) (t : List Passing) (v : ReceiverAnswer)
-        → Fit limit os → Sending os fs → length (joined os) ≤ length rest
+        → Fit limit os → FatesOf os fs → length (joined os) ≤ length rest
         → ((t′ : List Passing) (v′ : ReceiverAnswer) → Adds (nos .value) t t′ (length os) 0 0
         → Ends m (Ex m (tell m c ∷ []) s l acc (sec ++ arrived fs) (drop (length (arrived fs)) rest) radio t′ u v′))
         → Ends m (Ex m (flown fs (behind nos os c)) s l acc sec rest radio t u v)
@@ -127,7 +127,7 @@ module _ (m : Transfer) where
 
   module _ (wide : 0 < limit) (l : Length) (nos : Nos) (acc o : List ℕ) where
     pub sending-passes : (radio : List Noise) (s : Sent) (fs : List Fate) (rest : List ℕ) (t : List Passing) (u : ProviderAnswer) (v : ReceiverAnswer)
-        → Heard s nos → Sending (segments limit o) fs → length o ≤ length rest
+        → Heard s nos → FatesOf (segments limit o) fs → length o ≤ length rest
         → ((t′ : List Passing) (v′ : ReceiverAnswer) → Adds (nos .value) t t′ (divCeil (length o) limit) 0 0
         → Ends m (Ex m (tell m (closeFrame (P m) nos 3 o) ∷ []) s l acc (arrived fs) (drop (length (arrived fs)) rest) radio t′ u v′))
         → Ends m (Ex m (flown fs (packets nos o)) s l acc [] rest radio t u v)

@@ -31,7 +31,7 @@ use Rattle.receive.specs.declared.Sent.the-variants as S
 use Rattle.receive.specs.declared.ReceiverAnswer.{ReceiverAnswer}
 use Rattle.receive.specs.declared.ReceiverAnswer.the-variants as RA
 use Rattle.receive.proofs.Facts.{segment-taken}
-use Rattle.exchange.specs.Exchange.{Side, byProvider, byReceiver, Fate, lost, arrives, Passing, untouched, isSection, Noise, sendingsLeft, sent, Exchange, provided, taken, step, run, oneBy, sentBy}
+use Rattle.exchange.specs.Exchange.{Side, byProvider, byReceiver, Fate, lost, arrives, Passing, untouched, isSection, Noise, sendingsLeft, onTheWay, Exchange, provided, taken, step, run, oneBy, sentBy}
 use Rattle.exchange.specs.Transfer.{Transfer, Transferred, providerFrames, receiverFrames}
 use Rattle.exchange.specs.Order.{MeetsOwn, AnswersInOrder, InOrder}
 use Rattle.exchange.proofs.Hearing.{P, R, hears-sc, hears-ack, receiver-hears}
@@ -108,7 +108,7 @@ module _ (m : Transfer) where
 
   -- what the Provider's reply puts into the queue, and the sendings to come after it
   abbrev pub queued : Reply → List Noise → List Passing
-  queued r radio = sent radio (isSection r) (replies (P m) (m .file) r)
+  queued r radio = onTheWay radio (isSection r) (replies (P m) (m .file) r)
 
   abbrev pub left : Reply → List Noise → List Noise
   left r radio = sendingsLeft (isSection r) radio

@@ -26,7 +26,7 @@ use Rattle.receive.specs.declared.Sent.the-variants as S
 use Rattle.receive.specs.declared.Length.the-variants.{Unknown, Known}
 use Rattle.receive.specs.declared.ReceiverAnswer.the-variants as RA
 use Rattle.exchange.specs.Exchange.{Exchange, begun}
-use Rattle.exchange.specs.Transfer.{Transfer, Transferred, TwoPartyTransfer, Radio, inOrder, sendingFrames, damagedSendings, providerFrames, receiverFrames, exchanged}
+use Rattle.exchange.specs.Transfer.{Transfer, Transferred, TwoPartyTransfer, DamagedThenIntact, inOrder, sendingFrames, damagedSendings, providerFrames, receiverFrames, exchanged}
 use Rattle.exchange.proofs.Hearing.{P, R, short, settings, provider-fresh, receiver-fresh, starts}
 use Rattle.exchange.proofs.Asking.{asks-none}
 use Rattle.exchange.proofs.Steps.{Ends, Ex, sc, asking, ask, asked-sc, takes}
@@ -50,7 +50,7 @@ module _ (m : Transfer) where
 
   -- from the select to the first section
   opens : (c : ℕ) → count m ≡ suc c
-      → Radio (limit m) (parts (suc c) (size m) (m .file)) (m .radio)
+      → DamagedThenIntact (limit m) (parts (suc c) (size m) (m .file)) (m .radio)
       → 2 + suc c + sendingFrames (limit m) (parts (suc c) (size m) (m .file)) (m .radio) ≡ providerFrames m
       → 3 + 2 * suc c + damagedSendings (m .radio) ≡ receiverFrames m
       → Ends m (Ex m (ask m (sc m 1 none) ∷ []) (sc m 1 none) Unknown [] [] (m .store) (inOrder (m .radio)) [] (PA.Running Nothing) RA.Send)
@@ -65,7 +65,7 @@ module _ (m : Transfer) where
       refl (omega arith) (rw zero-mul) refl (m .room) refl (omega arith) awaits-first hit (omega arith) (omega arith))))
 
   begins : (c : ℕ) → count m ≡ c
-      → Radio (limit m) (parts c (size m) (m .file)) (m .radio)
+      → DamagedThenIntact (limit m) (parts c (size m) (m .file)) (m .radio)
       → 2 + c + sendingFrames (limit m) (parts c (size m) (m .file)) (m .radio) ≡ providerFrames m
       → 3 + 2 * c + damagedSendings (m .radio) ≡ receiverFrames m
       → Ends m (begun (P m) (R m S.Nothing Unknown 0 0) (m .store) (inOrder (m .radio)))

@@ -8,6 +8,7 @@ use Rattle.asdu.specs.declared.Header.{Header}
 use Rattle.asdu.specs.declared.UnknownField.the-variants as U
 use Rattle.frame.specs.declared.Frame.{Frame}
 use Rattle.frame.specs.Frames.{typeOf}
+use Rattle.ft.specs.Building.{headerOf}
 use Rattle.ft.specs.declared.Received.the-variants as D
 use Rattle.provide.specs.declared.Provider.{Provider}
 use Rattle.provide.specs.declared.ProviderStep.{ProviderStep}
@@ -109,8 +110,8 @@ flown (f ∷ fates) (x ∷ xs) =
     (untouched byProvider x ∷ flown (f ∷ fates) xs)
 
 -- what the Provider sends, on its way
-abbrev pub sent : List Noise → Bool → List Packet → List Passing
-sent radio begins xs = flown (nextSending begins radio (payloads xs)) xs
+abbrev pub onTheWay : List Noise → Bool → List Packet → List Passing
+onTheWay radio begins xs = flown (nextSending begins radio (payloads xs)) xs
 
 -- ---- the exchange
 
@@ -133,7 +134,7 @@ pub record Exchange : Type 0 where
 abbrev pub provided : List ℕ → Exchange → Passing → List Passing → ProviderStep → Exchange
 provided file e x rest s =
     record {
-      queue = rest ++ sent (e .radio) (isSending (s .answer)) (providerSends (s .provider) file (s .answer));
+      queue = rest ++ onTheWay (e .radio) (isSending (s .answer)) (providerSends (s .provider) file (s .answer));
       provider = s .provider;
       receiver = e .receiver;
       store = e .store;
@@ -183,6 +184,10 @@ passes file h e x rest (arrives beside) = handed file h e x rest beside (x .send
 -- a frame's header, by the frames taken before it
 abbrev pub Headers : Type 0
 Headers = List Passing → Passing → Header
+
+-- those of stations that both have this common address and no originator
+abbrev pub ownHeaders : ℕ → Headers
+ownHeaders ca before x = headerOf ca 0 (x .packet .frame)
 
 abbrev pub stepOn : List ℕ → Headers → Exchange → List Passing → Exchange
 stepOn file headers e [] = e

@@ -1,4 +1,5 @@
 pub mod Exchange
+pub mod Stations
 pub mod Transfer
 pub mod Order
 pub mod Damaging

@@ -1,25 +1,21 @@
 -- Document 01's worked script, `2 100 7 2 200 100 1 1`: its stations, its radio and its output.
 use Prim.Native.Nat.{ℕ}
-use mathlib.Core.Bool.{true, false}
 use mathlib.Core.List.{List, [], _∷_}
 use lib.ListN.{length}
 use Rattle.ft.specs.Procedure.{conventional}
-use Rattle.ft.specs.Building.{headerOf}
 use Rattle.ft.specs.declared.Role.{Role}
+use Rattle.ft.specs.declared.Role.the-variants.{Controlled}
 use Rattle.ft.specs.declared.FileTransferProcedure.{FileTransferProcedure}
 use Rattle.provide.specs.Sections.{sectionCount}
-use Rattle.exchange.specs.Exchange.{Side, byProvider, byReceiver, Passing, Headers}
+use Rattle.exchange.specs.Exchange.{Side, byProvider, byReceiver}
+use Rattle.exchange.specs.Stations.{stationWith}
 use Rattle.exchange.specs.Transfer.{Sendings}
 use Rattle.exchange.specs.Damaging.{scriptRadio}
 use Rattle.exchange.specs.Lines.{Line}
 
--- both stations have the conventional widths and the common address 1, and select the monitor direction
+-- both stations have the conventional widths and the common address 1, and the Provider is Controlled
 abbrev pub station : Role → FileTransferProcedure
-station role = record { role = role; selection = record { monitor = true; control = false }; ca = 1; org = 0; sizes = conventional }
-
--- the headers that they build
-abbrev pub ownHeaders : Headers
-ownHeaders before x = headerOf 1 0 (x .packet .frame)
+station role = stationWith conventional 1 Controlled role
 
 abbrev pub scriptFile : List ℕ
 scriptFile = 200 ∷ 100 ∷ []

@@ -49,12 +49,12 @@ senderOf provider receiver byReceiver = receiver
 -- ---- the radio
 
 -- what becomes of each of these segments: one that arrives is as long as it was sent
-abbrev pub Sending : List (List ℕ) → List Fate → Type 0
-Sending [] [] = Unit {0}
-Sending [] (f ∷ fs) = ⊥
-Sending (o ∷ os) [] = ⊥
-Sending (o ∷ os) (lost ∷ fs) = Sending os fs
-Sending (o ∷ os) (arrives a ∷ fs) = (length a ≡ length o) × Sending os fs
+abbrev pub FatesOf : List (List ℕ) → List Fate → Type 0
+FatesOf [] [] = Unit {0}
+FatesOf [] (f ∷ fs) = ⊥
+FatesOf (o ∷ os) [] = ⊥
+FatesOf (o ∷ os) (lost ∷ fs) = FatesOf os fs
+FatesOf (o ∷ os) (arrives a ∷ fs) = (length a ≡ length o) × FatesOf os fs
 
 -- what arrives of a sending: the payloads that are handed over, joined in order
 abbrev pub arrived : List Fate → List ℕ
@@ -69,7 +69,7 @@ pub record Sendings : Type 0 where
 
 -- segments are lost or octets altered, so that what arrives differs from the section in sum modulo 256
 abbrev pub Damaged : ℕ → List ℕ → Noise → Type 0
-Damaged limit o n = Sending (segments limit o) (n (segments limit o)) × (checksum (arrived (n (segments limit o))) ≢ checksum o)
+Damaged limit o n = FatesOf (segments limit o) (n (segments limit o)) × (checksum (arrived (n (segments limit o))) ≢ checksum o)
 
 abbrev pub AllDamaged : ℕ → List ℕ → List Noise → Type 0
 AllDamaged limit o [] = Unit {0}
@@ -77,14 +77,14 @@ AllDamaged limit o (n ∷ ns) = Damaged limit o n × AllDamaged limit o ns
 
 -- the section arrives
 abbrev pub Intact : ℕ → List ℕ → Noise → Type 0
-Intact limit o n = Sending (segments limit o) (n (segments limit o)) × (arrived (n (segments limit o)) ≡ o)
+Intact limit o n = FatesOf (segments limit o) (n (segments limit o)) × (arrived (n (segments limit o)) ≡ o)
 
 -- for each section in turn: its sendings
-abbrev pub Radio : ℕ → List (List ℕ) → List Sendings → Type 0
-Radio limit [] [] = Unit {0}
-Radio limit [] (x ∷ xs) = ⊥
-Radio limit (o ∷ os) [] = ⊥
-Radio limit (o ∷ os) (x ∷ xs) = AllDamaged limit o (x .damaged) × Intact limit o (x .intact) × Radio limit os xs
+abbrev pub DamagedThenIntact : ℕ → List (List ℕ) → List Sendings → Type 0
+DamagedThenIntact limit [] [] = Unit {0}
+DamagedThenIntact limit [] (x ∷ xs) = ⊥
+DamagedThenIntact limit (o ∷ os) [] = ⊥
+DamagedThenIntact limit (o ∷ os) (x ∷ xs) = AllDamaged limit o (x .damaged) × Intact limit o (x .intact) × DamagedThenIntact limit os xs
 
 -- all sendings, in their order
 abbrev pub inOrder : List Sendings → List Noise
@@ -123,7 +123,7 @@ pub record Transfer : Type 0 where
       → Sound (senderOf provider-station receiver-station (x .sender)) (x .packet .frame) (headers before x)
   -- each section is sent, damaged, any number of times, and then intact
   pub radio : List Sendings
-  pub damage : Radio (segmentLimit (provider-station .sizes)) (sections file) radio
+  pub damage : DamagedThenIntact (segmentLimit (provider-station .sizes)) (sections file) radio
 
 -- ---- the counts
 
@@ -138,13 +138,19 @@ abbrev pub damagedSendings : List Sendings → ℕ
 damagedSendings [] = 0
 damagedSendings (x ∷ xs) = length (x .damaged) + damagedSendings xs
 
--- what the Provider sends: 2 + n + Σ (1 + d) × (g + 1), for n sections
-abbrev pub providerFrames : Transfer → ℕ
-providerFrames m = 2 + sectionCount (length (m .file)) + sendingFrames (segmentLimit (m .provider-station .sizes)) (sections (m .file)) (m .radio)
+-- what the Provider sends of a file: 2 + n + Σ (1 + d) × (g + 1), for n sections
+abbrev pub providerCount : ℕ → List ℕ → List Sendings → ℕ
+providerCount limit file radio = 2 + sectionCount (length file) + sendingFrames limit (sections file) radio
 
 -- what the Receiver sends: 3 + 2 × n + D
+abbrev pub receiverCount : List ℕ → List Sendings → ℕ
+receiverCount file radio = 3 + 2 * sectionCount (length file) + damagedSendings radio
+
+abbrev pub providerFrames : Transfer → ℕ
+providerFrames m = providerCount (segmentLimit (m .provider-station .sizes)) (m .file) (m .radio)
+
 abbrev pub receiverFrames : Transfer → ℕ
-receiverFrames m = 3 + 2 * sectionCount (length (m .file)) + damagedSendings (m .radio)
+receiverFrames m = receiverCount (m .file) (m .radio)
 
 -- ---- the conclusion
 

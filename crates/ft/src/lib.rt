@@ -25,10 +25,13 @@ pub struct Selection {
     pub control: bool,
 }
 
+// A station's settings.
 pub struct FileTransferProcedure {
     pub role: Role,
     pub selection: Selection,
+    // Its own common address (7.2.4).
     pub ca: u16,
+    // Its own originator address (7.2.3), 0 where the header has none.
     pub org: u8,
     pub sizes: AddressSizes,
 }

@@ -20,8 +20,8 @@ abbrev pub made : ℕ → ℕ → Frame → AsduResult
 made ca org f = framed conventional ca org f []
 
 -- a select or call with this action and no error
-abbrev pub asks : ℕ → Scq
-asks action = record { action = action; error = 0 }
+abbrev pub withAction : ℕ → Scq
+withAction action = record { action = action; error = 0 }
 
 -- a request with a qualifier of the caller's: the call of a directory, action 0, is 7; then 4, 3
 unfoldable pub scMade : ℕ → ℕ → ℕ → Nof → Nos → Scq → AsduResult

@@ -23,7 +23,7 @@ ghost use mathlib.Core.Path.{_≡_};
 ghost use Rattle.frame.specs.declared.Frame.the-variants as F;
 ghost use Rattle.ft.specs.Procedure.{conventional};
 ghost use Rattle.ft.specs.Building.{framed};
-ghost use Rattle.makers.specs.Makers.{made, asks, scMade, segmentMade};
+ghost use Rattle.makers.specs.Makers.{made, withAction, scMade, segmentMade};
 
 // A frame that nothing stands beside.
 fn alone(ca: u16, org: u8, frame: Frame) -> AsduResult
@@ -34,7 +34,7 @@ fn alone(ca: u16, org: u8, frame: Frame) -> AsduResult
 
 // The call of a directory: action 0, as a request.
 pub fn call_directory(common_address: u16, originator: u8, ioa: u32, nof: Nof) -> AsduResult
-    ensures { λ r. ⌜ r ≡ made «common_address» originator (F.Sc ioa nof (record { value = 0 }) (asks 0)) ⌝ }
+    ensures { λ r. ⌜ r ≡ made «common_address» originator (F.Sc ioa nof (record { value = 0 }) (withAction 0)) ⌝ }
 {
     let nos = Nos { value: 0 };
     let scq = Scq {
@@ -56,7 +56,7 @@ pub fn sc(common_address: u16, originator: u8, ioa: u32, nof: Nof, nos: Nos, scq
 
 // A file is selected.
 pub fn select_file(common_address: u16, originator: u8, ioa: u32, nof: Nof, nos: Nos) -> AsduResult
-    ensures { λ r. ⌜ r ≡ made «common_address» originator (F.Sc ioa nof nos (asks 1)) ⌝ }
+    ensures { λ r. ⌜ r ≡ made «common_address» originator (F.Sc ioa nof nos (withAction 1)) ⌝ }
 {
     let scq = Scq {
         action: Scq::SELECT_FILE,
@@ -67,7 +67,7 @@ pub fn select_file(common_address: u16, originator: u8, ioa: u32, nof: Nof, nos:
 
 // A file is called.
 pub fn call_file(common_address: u16, originator: u8, ioa: u32, nof: Nof, nos: Nos) -> AsduResult
-    ensures { λ r. ⌜ r ≡ made «common_address» originator (F.Sc ioa nof nos (asks 2)) ⌝ }
+    ensures { λ r. ⌜ r ≡ made «common_address» originator (F.Sc ioa nof nos (withAction 2)) ⌝ }
 {
     let scq = Scq {
         action: Scq::REQUEST_FILE,
@@ -78,7 +78,7 @@ pub fn call_file(common_address: u16, originator: u8, ioa: u32, nof: Nof, nos: N
 
 // A section is called.
 pub fn call_section(common_address: u16, originator: u8, ioa: u32, nof: Nof, nos: Nos) -> AsduResult
-    ensures { λ r. ⌜ r ≡ made «common_address» originator (F.Sc ioa nof nos (asks 6)) ⌝ }
+    ensures { λ r. ⌜ r ≡ made «common_address» originator (F.Sc ioa nof nos (withAction 6)) ⌝ }
 {
     let scq = Scq {
         action: Scq::REQUEST_SECTION,

@@ -12,7 +12,7 @@ use machine_calls::receiving;
 use radio::Radio;
 use run::RunResult;
 use station_calls::kept as held;
-use twoparty::Passing;
+use twoparty::NextFrame;
 use twoparty::Queue;
 use twoparty::Settings;
 use twoparty::TwoParty;
@@ -189,14 +189,14 @@ fn side(sender: Sender) {
     }
 }
 
-fn passing(passing: Passing) {
+fn passing(passing: NextFrame) {
     match passing {
-        Passing::Nothing => write::word(write::NOTHING),
-        Passing::Frame { sender, frame } => {
+        NextFrame::Nothing => write::word(write::NOTHING),
+        NextFrame::Frame { sender, frame } => {
             side(sender);
             show::frame(frame);
         }
-        Passing::Err(error) => write::refused(error),
+        NextFrame::Err(error) => write::refused(error),
     }
 }
 
@@ -247,15 +247,15 @@ fn is_passed(
 ) -> bool {
     let party = party(regs);
     match party.next_frame(file) {
-        Passing::Nothing => false,
-        Passing::Frame { sender, frame } => {
+        NextFrame::Nothing => false,
+        NextFrame::Frame { sender, frame } => {
             if is_kept(regs, party.step(file, damage, store)) {
                 passed(regs, sender, frame, is_printed);
                 return true;
             }
             false
         }
-        Passing::Err(_) => false,
+        NextFrame::Err(_) => false,
     }
 }
 

@@ -18,7 +18,7 @@ use Rattle.ft.specs.declared.Received.the-variants as D
 use Rattle.ft.specs.declared.Reaction.the-variants as A
 use Rattle.provide.specs.Sections.{sectionLength, sectionCount, sectionOctets}
 use Rattle.provide.specs.Record.{fileAgrees, ended, counted}
-use Rattle.provide.specs.Requests.{stepped, replying, onSc, after, onAck, isOurs, onOurs, onRequest, provide}
+use Rattle.provide.specs.Requests.{stepped, replying, onSc, afterSection, onAck, isOurs, onOurs, onRequest, provide}
 use Rattle.provide.specs.declared.Provider.{Provider}
 use Rattle.provide.specs.declared.Reply.the-variants.{Nothing, FileReady, SectionReady, Section, FileClose}
 use Rattle.provide.specs.declared.ProviderAnswer.the-variants.{Complete}
@@ -61,11 +61,11 @@ module _ (p : Provider) where
 
     -- a section accepted: the next one, or the file's close
     pub next-section : nos .value < sectionCount (p .length) → onAck p nos (record { action = 3; error = error }) ≡ replying p (SectionReady (record { value = nos .value + 1 }))
-    unfolding onAck after when
+    unfolding onAck afterSection when
     next-section h = simp (lt-ltb (nos .value) (sectionCount (p .length)) h)
 
     pub no-section : sectionCount (p .length) ≤ nos .value → onAck p nos (record { action = 3; error = error }) ≡ replying p (FileClose nos)
-    unfolding onAck after when
+    unfolding onAck afterSection when
     no-section h = simp (le-ltb (nos .value) (sectionCount (p .length)) h)
 
     -- a section refused: it is sent again

@@ -25,10 +25,10 @@ unfolding settled when
 settled-by p z a = simp (z, a)
 
 -- a test that is passed before an answer
-passed : (b : Bool) (e : FtError) (y : ProviderResult) (x : Provider) → unless b (Err e) y ≡ Ok x → (b ≡ true) × (y ≡ Ok x)
+test-held : (b : Bool) (e : FtError) (y : ProviderResult) (x : Provider) → unless b (Err e) y ≡ Ok x → (b ≡ true) × (y ≡ Ok x)
 unfolding when
-passed true e y x h = (refl, h)
-passed false e y x h = (cc, cc)
+test-held true e y x h = (refl, h)
+test-held false e y x h = (cc, cc)
 
 module _ (p : FileTransferProcedure) (ioa : ℕ) (nof : Nof) (n : ℕ) where
   pub record Made (x : Provider) : Type 0 where
@@ -40,9 +40,9 @@ module _ (p : FileTransferProcedure) (ioa : ℕ) (nof : Nof) (n : ℕ) where
   pub made : (x : Provider) → providerMade p ioa nof n ≡ Ok x → Made x
   unfolding providerMade addressed
   made x e =
-      let z = passed _ _ _ x e in
-      let a = passed _ _ _ x (z .1) in
-      let l = passed _ _ _ x (a .1) in
+      let z = test-held _ _ _ x e in
+      let a = test-held _ _ _ x (z .1) in
+      let l = test-held _ _ _ x (a .1) in
       let o = both _ _ (a .0) in
       record { settings = settled-by p (z .0) (o .0); object = o .1; short = leb-true _ _ (l .0); fresh = cc (l .1) }
 

@@ -4,6 +4,7 @@ use mathlib.Core.Bool.{Bool, true, false}
 use mathlib.Core.List.{List}
 use lib.Dec.{eqb, ltb}
 use Rattle.laws.specs.When.{when, unless, _and_}
+use Rattle.asdu.specs.Codes.{«SELECT_FILE», «REQUEST_FILE», «SELECT_SECTION», «REQUEST_SECTION», «FILE_POSITIVE», «SECTION_POSITIVE», «SECTION_NEGATIVE»}
 use Rattle.asdu.specs.declared.Nos.{Nos}
 use Rattle.asdu.specs.declared.Scq.{Scq}
 use Rattle.asdu.specs.declared.Afq.{Afq}
@@ -35,25 +36,25 @@ stepped p a = record { provider = p; answer = a }
 abbrev pub replying : Provider → Reply → ProviderStep
 replying p r = stepped p (Running r)
 
--- a request, by the action of SCQ: 1 select file, 2 request file, 5 select section, 6 request section; any other ends the transfer
+-- a request, by the action of SCQ; one that is not listed ends the transfer
 unfoldable pub onSc : Provider → Nos → Scq → ProviderStep
 onSc p nos q =
-    when (eqb (q .action) 1) (replying p FileReady)
-    (when (eqb (q .action) 2) (replying p (SectionReady (record { value = 1 })))
-    (when (eqb (q .action) 5) (replying p (SectionReady nos))
-    (when (eqb (q .action) 6) (replying p (Section nos))
+    when (eqb (q .action) «SELECT_FILE») (replying p FileReady)
+    (when (eqb (q .action) «REQUEST_FILE») (replying p (SectionReady (record { value = 1 })))
+    (when (eqb (q .action) «SELECT_SECTION») (replying p (SectionReady nos))
+    (when (eqb (q .action) «REQUEST_SECTION») (replying p (Section nos))
     (stepped (ended p) (Deactivated q)))))
 
 -- after a positive acknowledgement of section `nos`: the next one (of 0: the first), or, of the last or beyond, the file's close under that name
-unfoldable pub after : Provider → Nos → Reply
-after p nos = when (ltb (nos .value) (sectionCount (p .length))) (SectionReady (record { value = nos .value + 1 })) (FileClose nos)
+unfoldable pub afterSection : Provider → Nos → Reply
+afterSection p nos = when (ltb (nos .value) (sectionCount (p .length))) (SectionReady (record { value = nos .value + 1 })) (FileClose nos)
 
--- an acknowledgement, by the action of AFQ: 3 section positive, 4 section negative, 1 file positive; any other ends the transfer
+-- an acknowledgement, by the action of AFQ; one that is not listed ends the transfer
 unfoldable pub onAck : Provider → Nos → Afq → ProviderStep
 onAck p nos q =
-    when (eqb (q .action) 3) (replying p (after p nos))
-    (when (eqb (q .action) 4) (replying p (Section nos))
-    (when (eqb (q .action) 1) (stepped (ended p) Complete)
+    when (eqb (q .action) «SECTION_POSITIVE») (replying p (afterSection p nos))
+    (when (eqb (q .action) «SECTION_NEGATIVE») (replying p (Section nos))
+    (when (eqb (q .action) «FILE_POSITIVE») (stepped (ended p) Complete)
     (stepped (ended p) (FileRejected q))))
 
 -- whether a request is for this object address and file

@@ -19,7 +19,7 @@ use ft::Reaction;
 use ft::Received;
 ghost use mathlib.Core.Path.{_≡_};
 ghost use Rattle.provide.specs.Record.{ended};
-ghost use Rattle.provide.specs.Requests.{stepped, replying, onSc, after, onAck, isOurs, onOurs, onRequest, onRequested, provideAdmitted, provide};
+ghost use Rattle.provide.specs.Requests.{stepped, replying, onSc, afterSection, onAck, isOurs, onOurs, onRequest, onRequested, provideAdmitted, provide};
 ghost use Rattle.provide.specs.declared.Reply.the-variants.{Nothing};
 ghost use Rattle.provide.specs.declared.ProviderAnswer.the-variants.{Refused, Err};
 
@@ -80,8 +80,8 @@ impl Provider {
     }
 
     // After a positive acknowledgement of section `nos`: the next section, or the file's close.
-    fn after(self, nos: Nos) -> Reply
-        ensures { λ r. ⌜ r ≡ after self nos ⌝ }
+    fn after_section(self, nos: Nos) -> Reply
+        ensures { λ r. ⌜ r ≡ afterSection self nos ⌝ }
     {
         let name = nos.value;
         if (name as usize) < sections::section_count(self.length) {
@@ -96,7 +96,7 @@ impl Provider {
     {
         let action = afq.action;
         match action {
-            Afq::SECTION_POSITIVE => self.reply(self.after(nos)),
+            Afq::SECTION_POSITIVE => self.reply(self.after_section(nos)),
             Afq::SECTION_NEGATIVE => self.reply(Reply::Section(nos)),
             Afq::FILE_POSITIVE => self.end(ProviderAnswer::Complete),
             _ => self.end(ProviderAnswer::FileRejected { afq }),

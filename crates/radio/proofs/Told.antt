@@ -35,15 +35,15 @@ bare-told false f = refl
 
 module _ (p : Provider) (nos : Nos) (c : Frame) where
   -- segments and a close
-  abbrev sending : List (List ℕ) → List Packet
-  sending os = map (segmentPacket p nos) os ++ (bare c ∷ [])
+  abbrev sectionPackets : List (List ℕ) → List Packet
+  sectionPackets os = map (segmentPacket p nos) os ++ (bare c ∷ [])
 
-  pub flown-unhurt : (os : List (List ℕ)) → flown (unhurt os) (sending os) ≡ told false (sending os)
+  pub flown-unhurt : (os : List (List ℕ)) → flown (unhurt os) (sectionPackets os) ≡ told false (sectionPackets os)
   unfolding when
   flown-unhurt [] = refl
   flown-unhurt (o ∷ os) = ap (λ (r : List Passing). record { sender = byProvider; packet = segmentPacket p nos o; fate = arrives o } ∷ r) (flown-unhurt os)
 
-  pub flown-hurt : (os : List (List ℕ)) → flown (hurt os) (sending os) ≡ told true (sending os)
+  pub flown-hurt : (os : List (List ℕ)) → flown (hurt os) (sectionPackets os) ≡ told true (sectionPackets os)
   unfolding when
   flown-hurt [] = refl
   flown-hurt (o ∷ os) = ap (λ (r : List Passing). record { sender = byProvider; packet = segmentPacket p nos o; fate = arrives (raised o) } ∷ r) (flown-unhurt os)

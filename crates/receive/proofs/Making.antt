@@ -21,10 +21,10 @@ unfolding settled when
 settled-by p z a = simp (z, a)
 
 -- a test that is passed before an answer
-passed : (b : Bool) (e : FtError) (y : ReceiverResult) (x : Receiver) → unless b (Err e) y ≡ Ok x → (b ≡ true) × (y ≡ Ok x)
+test-held : (b : Bool) (e : FtError) (y : ReceiverResult) (x : Receiver) → unless b (Err e) y ≡ Ok x → (b ≡ true) × (y ≡ Ok x)
 unfolding when
-passed true e y x h = (refl, h)
-passed false e y x h = (cc, cc)
+test-held true e y x h = (refl, h)
+test-held false e y x h = (cc, cc)
 
 module _ (p : FileTransferProcedure) (ioa : ℕ) (nof : Nof) where
   pub record Made (x : Receiver) : Type 0 where
@@ -35,7 +35,7 @@ module _ (p : FileTransferProcedure) (ioa : ℕ) (nof : Nof) where
   pub made : (x : Receiver) → receiverMade p ioa nof ≡ Ok x → Made x
   unfolding receiverMade addressed
   made x e =
-      let z = passed _ _ _ x e in
-      let a = passed _ _ _ x (z .1) in
+      let z = test-held _ _ _ x e in
+      let a = test-held _ _ _ x (z .1) in
       let o = both _ _ (a .0) in
       record { settings = settled-by p (z .0) (o .0); object = o .1; fresh = cc (a .1) }

@@ -4,6 +4,7 @@ use mathlib.Core.Path.{_≡_, refl}
 use mathlib.Core.Bool.{Bool, true, false}
 use mathlib.Core.List.{List, []}
 use Rattle.laws.specs.When.{when}
+use Rattle.laws.proofs.Choices as C
 use Rattle.asdu.specs.declared.Nos.{Nos}
 use Rattle.asdu.specs.declared.Lof.{Lof}
 use Rattle.asdu.specs.declared.Frq.{Frq}
@@ -28,105 +29,101 @@ use Rattle.receive.specs.Answers.{Outcome, leaving, onFileReady, onSecti
 use Rattle.receive.specs.declared.Receiver.{Receiver}
 use Rattle.receive.specs.declared.ReceiverStep.{ReceiverStep}
 
--- a step that keeps the record, if its answer is a refusal
-record Keeps (r : Receiver) (s : ReceiverStep) : Type 0 where
-  keeps : isRefusal (s .answer) ≡ true → s .receiver ≡ r
-
-same : (r : Receiver) (a : ReceiverAnswer) → Keeps r (stepped r a)
-same r a = record { keeps = λ e. refl }
-
--- a step whose answer is none
-other : (r : Receiver) (s : ReceiverStep) → isRefusal (s .answer) ≡ false → Keeps r s
-other r s h = record { keeps = λ e. cc }
-
-either : (r : Receiver) (b : Bool) (x y : ReceiverStep) → Keeps r x → Keeps r y → Keeps r (when b x y)
-unfolding when
-either r true x y h k = h
-either r false x y h k = k
-
--- and the store
-record KeepsAll (r : Receiver) (store : List ℕ) (o : Outcome) : Type 0 where
-  keeps : isRefusal (o .step .answer) ≡ true → (o .step .receiver ≡ r) × (o .store ≡ store)
-
-same-all : (r : Receiver) (store : List ℕ) (a : ReceiverAnswer) → KeepsAll r store (leaving store (stepped r a))
-same-all r store a = record { keeps = λ e. (refl, refl) }
-
-other-all : (r : Receiver) (store : List ℕ) (o : Outcome) → isRefusal (o .step .answer) ≡ false → KeepsAll r store o
-other-all r store o h = record { keeps = λ e. (cc, cc) }
-
-either-all : (r : Receiver) (store : List ℕ) (b : Bool) (x y : Outcome) → KeepsAll r store x → KeepsAll r store y → KeepsAll r store (when b x y)
-unfolding when
-either-all r store true x y h k = h
-either-all r store false x y h k = k
-
 module _ (r : Receiver) (store : List ℕ) where
-  left : (s : ReceiverStep) → Keeps r s → KeepsAll r store (leaving store s)
+  -- a step that keeps the record, if its answer is a refusal
+  abbrev Keeps : ReceiverStep → Type 0
+  Keeps = C.Keeps (λ (s : ReceiverStep). isRefusal (s .answer)) (λ (s : ReceiverStep). s .receiver ≡ r)
+
+  either : (b : Bool) (x y : ReceiverStep) → Keeps x → Keeps y → Keeps (when b x y)
+  either = C.either Keeps
+
+  same : (a : ReceiverAnswer) → Keeps (stepped r a)
+  same a = C.same _ _ (stepped r a) refl
+
+  -- a step whose answer is none
+  other : (s : ReceiverStep) → isRefusal (s .answer) ≡ false → Keeps s
+  other = C.other _ _
+
+  -- and the store
+  abbrev KeepsAll : Outcome → Type 0
+  KeepsAll = C.Keeps (λ (o : Outcome). isRefusal (o .step .answer)) (λ (o : Outcome). (o .step .receiver ≡ r) × (o .store ≡ store))
+
+  either-all : (b : Bool) (x y : Outcome) → KeepsAll x → KeepsAll y → KeepsAll (when b x y)
+  either-all = C.either KeepsAll
+
+  same-all : (a : ReceiverAnswer) → KeepsAll (leaving store (stepped r a))
+  same-all a = C.same _ _ (leaving store (stepped r a)) (refl, refl)
+
+  other-all : (o : Outcome) → isRefusal (o .step .answer) ≡ false → KeepsAll o
+  other-all = C.other _ _
+
+  left : (s : ReceiverStep) → Keeps s → KeepsAll (leaving store s)
   left s h = record { keeps = λ e. (h .keeps e, refl) }
 
-  file-ready-keeps : (lof : Lof) (frq : Frq) → Keeps r (onFileReady r lof frq)
+  file-ready-keeps : (lof : Lof) (frq : Frq) → Keeps (onFileReady r lof frq)
   unfolding onFileReady
-  file-ready-keeps lof frq = either r _ _ _ (other r _ refl) (other r _ refl)
+  file-ready-keeps lof frq = either _ _ _ (other _ refl) (other _ refl)
 
-  section-ready-keeps : (nos : Nos) (srq : Srq) → Keeps r (onSectionReady r nos srq)
+  section-ready-keeps : (nos : Nos) (srq : Srq) → Keeps (onSectionReady r nos srq)
   unfolding onSectionReady
-  section-ready-keeps nos srq = either r _ _ _ (other r _ refl) (other r _ refl)
+  section-ready-keeps nos srq = either _ _ _ (other _ refl) (other _ refl)
 
-  section-close-keeps : (nos : Nos) (chs : Chs) → Keeps r (onSectionClose r store nos chs)
+  section-close-keeps : (nos : Nos) (chs : Chs) → Keeps (onSectionClose r store nos chs)
   unfolding onSectionClose
-  section-close-keeps nos chs = either r _ _ _ (other r _ refl) (other r _ refl)
+  section-close-keeps nos chs = either _ _ _ (other _ refl) (other _ refl)
 
-  file-close-keeps : (nos : Nos) (chs : Chs) → Keeps r (onFileClose r store nos chs)
+  file-close-keeps : (nos : Nos) (chs : Chs) → Keeps (onFileClose r store nos chs)
   unfolding onFileClose
-  file-close-keeps nos chs = either r _ _ _ (other r _ refl) (other r _ refl)
+  file-close-keeps nos chs = either _ _ _ (other _ refl) (other _ refl)
 
-  close-keeps : (nos : Nos) (lsq : Lsq) (chs : Chs) → Keeps r (onClose r store nos lsq chs)
+  close-keeps : (nos : Nos) (lsq : Lsq) (chs : Chs) → Keeps (onClose r store nos lsq chs)
   unfolding onClose
-  close-keeps nos lsq chs = either r _ _ _ (section-close-keeps nos chs) (either r _ _ _ (file-close-keeps nos chs) (other r _ refl))
+  close-keeps nos lsq chs = either _ _ _ (section-close-keeps nos chs) (either _ _ _ (file-close-keeps nos chs) (other _ refl))
 
-  segment-keeps : (payload : List ℕ) → KeepsAll r store (onSegment r store payload)
+  segment-keeps : (payload : List ℕ) → KeepsAll (onSegment r store payload)
   unfolding onSegment
-  segment-keeps payload = either-all r store _ _ _ (other-all r store _ refl) (same-all r store _)
+  segment-keeps payload = either-all _ _ _ (other-all _ refl) (same-all _)
 
-  answered-keeps : (payload : List ℕ) (f : Frame) → KeepsAll r store (onAnswered r store payload f)
+  answered-keeps : (payload : List ℕ) (f : Frame) → KeepsAll (onAnswered r store payload f)
   answered-keeps payload (F.FileReady ioa nof lof frq) = left _ (file-ready-keeps lof frq)
   answered-keeps payload (F.SectionReady ioa nof nos lof srq) = left _ (section-ready-keeps nos srq)
-  answered-keeps payload (F.Sc ioa nof nos scq) = same-all r store _
+  answered-keeps payload (F.Sc ioa nof nos scq) = same-all _
   answered-keeps payload (F.LastSection ioa nof nos lsq chs) = left _ (close-keeps nos lsq chs)
-  answered-keeps payload (F.Ack ioa nof nos afq) = same-all r store _
+  answered-keeps payload (F.Ack ioa nof nos afq) = same-all _
   answered-keeps payload (F.Segment ioa nof nos los) = segment-keeps payload
-  answered-keeps payload (F.Directory ioa cause) = same-all r store _
-  answered-keeps payload (F.QueryLog ioa nof start stop) = same-all r store _
+  answered-keeps payload (F.Directory ioa cause) = same-all _
+  answered-keeps payload (F.QueryLog ioa nof start stop) = same-all _
 
-  received-keeps : (payload : List ℕ) (x : Received) → KeepsAll r store (onReceived r store payload x)
+  received-keeps : (payload : List ℕ) (x : Received) → KeepsAll (onReceived r store payload x)
   received-keeps payload (D.Frame f) = answered-keeps payload f
-  received-keeps payload D.Undecodable = same-all r store _
+  received-keeps payload D.Undecodable = same-all _
 
-  admitted-keeps : (payload : List ℕ) (received : Received) (a : Reaction) → KeepsAll r store (receiveAdmitted r store payload received a)
-  admitted-keeps payload received A.Requested = same-all r store _
+  admitted-keeps : (payload : List ℕ) (received : Received) (a : Reaction) → KeepsAll (receiveAdmitted r store payload received a)
+  admitted-keeps payload received A.Requested = same-all _
   admitted-keeps payload received A.Answered = received-keeps payload received
-  admitted-keeps payload received (A.Refused cause mirror) = other-all r store _ refl
-  admitted-keeps payload received (A.Discard why) = same-all r store _
-  admitted-keeps payload received A.Other = same-all r store _
-  admitted-keeps payload received (A.Err x) = same-all r store _
+  admitted-keeps payload received (A.Refused cause mirror) = other-all _ refl
+  admitted-keeps payload received (A.Discard why) = same-all _
+  admitted-keeps payload received A.Other = same-all _
+  admitted-keeps payload received (A.Err x) = same-all _
 
   receive-keeps : (h : Header) (unknown : UnknownField) (received : Received) (beside : List ℕ)
-      → KeepsAll r store (receive r store h unknown received beside)
+      → KeepsAll (receive r store h unknown received beside)
   unfolding receive
   receive-keeps h unknown received beside =
-      either-all r store _ _ _ (either-all r store _ _ _ (same-all r store _) (admitted-keeps beside received (onAnswer (r .procedure) h unknown received beside (awaited r)))) (same-all r store _)
+      either-all _ _ _ (either-all _ _ _ (same-all _) (admitted-keeps beside received (onAnswer (r .procedure) h unknown received beside (awaited r)))) (same-all _)
 
   pub refusal-keeps : (h : Header) (unknown : UnknownField) (received : Received) (beside : List ℕ)
       → isRefusal (receive r store h unknown received beside .step .answer) ≡ true
       → (receive r store h unknown received beside .step .receiver ≡ r) × (receive r store h unknown received beside .store ≡ store)
   refusal-keeps h unknown received beside = receive-keeps h unknown received beside .keeps
 
-  start-with : (a : AsduResult) → Keeps r (startedWith r a)
-  start-with (B.Ok a) = other r _ refl
-  start-with (B.Err x) = same r _
+  start-with : (a : AsduResult) → Keeps (startedWith r a)
+  start-with (B.Ok a) = other _ refl
+  start-with (B.Err x) = same _
 
-  started-keeps : Keeps r (started r store)
+  started-keeps : Keeps (started r store)
   unfolding started
-  started-keeps = either r _ _ _ (start-with (built (r .procedure) (select r) [])) (same r _)
+  started-keeps = either _ _ _ (start-with (built (r .procedure) (select r) [])) (same _)
 
   -- the start likewise
   pub start-refusal-keeps : isRefusal (started r store .answer) ≡ true → started r store .receiver ≡ r

@@ -17,7 +17,7 @@ use Rattle.ft.specs.Admission.{serves}
 use Rattle.ft.specs.Building.{headerOf, framed, built}
 use Rattle.ft.specs.declared.Asdu.{Asdu}
 use Rattle.ft.specs.declared.AsduResult.the-variants as A
-use Rattle.receive.specs.Record.{storeAgrees, sending, opening, select, stepped, startedWith, started}
+use Rattle.receive.specs.Record.{storeAgrees, awaiting, opening, select, stepped, startedWith, started}
 use Rattle.receive.specs.declared.Receiver.{Receiver}
 use Rattle.receive.specs.declared.ReceiverAnswer.the-variants.{Send, Err}
 
@@ -40,7 +40,7 @@ agrees-held r store e = leb-true (r .kept + r .staged) (length store) (agrees r 
 started-when : (r : Receiver) (u s : Bool) (a : Asdu)
     → startedWith r (unless u (A.Err E.FunctionNotUsed) (unless s (A.Err E.NotSelectedDirection) (A.Ok a)))
     ≡ unless u (stepped r (Err E.FunctionNotUsed))
-    (unless s (stepped r (Err E.NotSelectedDirection)) (stepped (sending r opening) Send))
+    (unless s (stepped r (Err E.NotSelectedDirection)) (stepped (awaiting r opening) Send))
 unfolding when
 started-when r true true a = refl
 started-when r true false a = refl
@@ -50,7 +50,7 @@ pub started-is : (r : Receiver) (store : List ℕ) → storeAgrees r store ≡ t
     → started r store
     ≡ unless (usesFunction (r .procedure .selection)) (stepped r (Err E.FunctionNotUsed))
     (unless (serves (r .procedure) (r .procedure .role) true) (stepped r (Err E.NotSelectedDirection))
-    (stepped (sending r opening) Send))
+    (stepped (awaiting r opening) Send))
 unfolding started built framed addressed settled scqInRange when
 started-is r store e =
     let g = agrees r store e in

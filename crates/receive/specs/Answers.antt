@@ -22,7 +22,7 @@ use Rattle.ft.specs.declared.Received.{Received}
 use Rattle.ft.specs.declared.Received.the-variants as D
 use Rattle.ft.specs.declared.Reaction.{Reaction}
 use Rattle.ft.specs.declared.Reaction.the-variants as A
-use Rattle.receive.specs.Record.{storeAgrees, sending, holding, stating, ended, keptOctets, stagedOctets, awaited, stepped}
+use Rattle.receive.specs.Record.{storeAgrees, awaiting, holding, stating, ended, keptOctets, stagedOctets, awaited, stepped}
 use Rattle.store.specs.Store.{written}
 use Rattle.receive.specs.declared.Sent.{Sent}
 use Rattle.receive.specs.declared.Sent.the-variants.{Request, Acknowledgement}
@@ -37,7 +37,7 @@ use Rattle.receive.specs.declared.ReceiverAnswer.the-variants.{Running, 
 
 -- a frame goes out, and its answer is awaited
 abbrev pub asks : Receiver → Sent → ReceiverStep
-asks r s = stepped (sending r s) Send
+asks r s = stepped (awaiting r s) Send
 
 -- the file is ready, or it is not; its length is recorded
 unfoldable pub onFileReady : Receiver → Lof → Frq → ReceiverStep
@@ -57,7 +57,7 @@ onSectionClose r store nos chs =
 
 -- the transfer is over: a section under way is dropped, and the accepted count stays
 abbrev pub closing : Receiver → Sent → Receiver
-closing r ack = ended (sending (holding r (r .kept) 0) ack)
+closing r ack = ended (awaiting (holding r (r .kept) 0) ack)
 
 -- the file's close: the sum of the accepted octets only
 unfoldable pub onFileClose : Receiver → List ℕ → Nos → Chs → ReceiverStep

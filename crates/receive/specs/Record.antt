@@ -55,8 +55,8 @@ withState r sent len kept staged done =
     record { procedure = r .procedure; ioa = r .ioa; nof = r .nof; sent = sent; length = len; kept = kept; staged = staged; done = done }
 
 -- the answer to another is awaited
-abbrev pub sending : Receiver → Sent → Receiver
-sending r s = withState r s (r .length) (r .kept) (r .staged) (r .done)
+abbrev pub awaiting : Receiver → Sent → Receiver
+awaiting r s = withState r s (r .length) (r .kept) (r .staged) (r .done)
 
 -- so many octets are accepted and under way
 abbrev pub holding : Receiver → ℕ → ℕ → Receiver
@@ -110,7 +110,7 @@ abbrev pub stepped : Receiver → ReceiverAnswer → ReceiverStep
 stepped r a = record { receiver = r; answer = a }
 
 abbrev pub startedWith : Receiver → AsduResult → ReceiverStep
-startedWith r (A.Ok a) = stepped (sending r opening) R.Send
+startedWith r (A.Ok a) = stepped (awaiting r opening) R.Send
 startedWith r (A.Err e) = stepped r (R.Err e)
 
 -- 26, then what `build` refuses of the select; a done record starts too, and nothing but what was sent changes

@@ -115,7 +115,7 @@ impl Receiver {
         last.staged = 0;
         last.done = true;
         ReceiverStep {
-            receiver: last.sending(ack),
+            receiver: last.awaiting(ack),
             answer,
         }
     }

@@ -8,7 +8,7 @@ use crate::Sent;
 use crate::ToSend;
 use asdu::FtError;
 ghost use mathlib.Core.Path.{_≡_};
-ghost use Rattle.receive.specs.Record.{sending, stating, ended, stepped};
+ghost use Rattle.receive.specs.Record.{awaiting, stating, ended, stepped};
 ghost use Rattle.receive.specs.Answers.{asks, sends, toSend};
 ghost use Rattle.receive.specs.declared.ReceiverAnswer.the-variants.{Running, Err};
 
@@ -46,8 +46,8 @@ impl Receiver {
     }
 
     // The record with the answer to this awaited.
-    pub(crate) fn sending(self, sent: Sent) -> Receiver
-        ensures { λ r. ⌜ r ≡ sending self sent ⌝ }
+    pub(crate) fn awaiting(self, sent: Sent) -> Receiver
+        ensures { λ r. ⌜ r ≡ awaiting self sent ⌝ }
     {
         let procedure = self.procedure;
         let nof = self.nof;
@@ -88,7 +88,7 @@ impl Receiver {
         ensures { λ r. ⌜ r ≡ asks self sent ⌝ }
     {
         ReceiverStep {
-            receiver: self.sending(sent),
+            receiver: self.awaiting(sent),
             answer: ReceiverAnswer::Send,
         }
     }

@@ -23,7 +23,7 @@ use Rattle.provide.specs.Record.{providerMade}
 use Rattle.provide.proofs.Building.{wide}
 use Rattle.provide.proofs.Making.{made}
 use Rattle.receive.specs.declared.Receiver.{Receiver}
-use Rattle.exchange.specs.Exchange.{Side, byProvider, byReceiver, Passing, Exchange}
+use Rattle.exchange.specs.Exchange.{Side, byProvider, byReceiver, Passing, Exchange, ownHeaders}
 use Rattle.exchange.specs.Transfer.{Sound, Transfer, senderOf}
 use Rattle.exchange.specs.Order.{InOrder}
 use Rattle.exchange.specs.Damaging.{scriptRadio}
@@ -33,7 +33,7 @@ use Rattle.exchange.proofs.Ordering.{in-order}
 use Rattle.twoparty.specs.Party.{stationOf, withProvider, partyMade}
 use Rattle.run.specs.Loop.{Ran, ranFrom}
 use Rattle.radio.specs.Radio.{allHaveOctets}
-use Rattle.run.specs.Run.{ownHeaders, exchangeOf, endingBy, ending, refused, twoParty, scriptFrames}
+use Rattle.run.specs.Run.{exchangeOf, endingBy, ending, refused, twoParty, scriptFrames}
 use Rattle.twoparty.specs.declared.Settings.{Settings}
 use Rattle.twoparty.specs.declared.TwoParty.{TwoParty}
 use Rattle.twoparty.specs.declared.TwoPartyResult.the-variants as T

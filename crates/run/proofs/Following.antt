@@ -34,12 +34,11 @@ use Rattle.receive.specs.declared.Receiver.{Receiver}
 use Rattle.receive.specs.declared.ReceiverAnswer.{ReceiverAnswer}
 use Rattle.receive.specs.declared.ReceiverStep.{ReceiverStep}
 use Rattle.receive.specs.declared.ToSend.the-variants as T
-use Rattle.exchange.specs.Exchange.{Side, byReceiver, Passing, untouched, providerSends, packetsOf, receiverSends, isSending, Noise, sent, sendingsLeft, Exchange, provided, taken, stepOn, step, begun}
-use Rattle.exchange.proofs.Radio.{payloads-behind}
-use Rattle.twoparty.specs.Party.{startedParty, headerBy, asked, replied, afterProvider, afterReceiver, advanced}
+use Rattle.exchange.specs.Exchange.{Side, byReceiver, Passing, untouched, providerSends, packetsOf, receiverSends, isSending, Noise, onTheWay, sendingsLeft, Exchange, provided, taken, stepOn, step, begun, ownHeaders}
+use Rattle.exchange.proofs.Begins.{payloads-behind}
+use Rattle.twoparty.specs.Party.{startedParty, headerBy, asked, isDamaged, replied, afterProvider, afterReceiver, advanced}
 use Rattle.twoparty.proofs.Standing.{queueOf, none, packetAt, frame-is, first-is}
 use Rattle.radio.specs.Radio.{afterSending, arriving}
-use Rattle.run.specs.Run.{ownHeaders}
 use Rattle.twoparty.specs.declared.Queue.{Queue}
 use Rattle.twoparty.specs.declared.Queue.the-variants as Q
 use Rattle.radio.specs.declared.Radio.{Radio}
@@ -53,10 +52,11 @@ use Rattle.radio.proofs.Tuning.{Unnamed, Tuned, tuned-next, tuned-sent}
 module _ (p : Provider) (file : List ℕ) where
   -- what the Provider's answer puts into it
   module _ (damage : List ℕ) (count : ℕ) (r : Radio) (radio : List Noise) (tuned : Tuned damage count r radio) where
-    one : (f : Frame) → sent radio false (bare f ∷ []) ≡ told (ltb 0 (r .left)) (bare f ∷ [])
-    one f = flown-none (bare f ∷ []) ∙ sym (bare-told (ltb 0 (r .left)) f)
+    one : (f : Frame) → onTheWay radio false (bare f ∷ []) ≡ told false (bare f ∷ [])
+    one f = flown-none (bare f ∷ []) ∙ sym (bare-told false f)
 
-    reply-sent : (reply : Reply) → sent radio (isSending (PA.Running reply)) (replies p file reply) ≡ told (ltb 0 (r .left)) (replies p file reply)
+    reply-sent : (reply : Reply) → onTheWay radio (isSending (PA.Running reply)) (replies p file reply) ≡ told (isDamaged r reply) (replies p file reply)
+    unfolding isDamaged when
     reply-sent Nothing = refl
     reply-sent FileReady = one _
     reply-sent (SectionReady nos) = one _
@@ -65,7 +65,7 @@ module _ (p : Provider) (file : List ℕ) where
         (tuned-sent damage count p nos (closeFrame p nos 3 (octetsOf p file nos)) (segments (limitOf p) (octetsOf p file nos)) r radio tuned)
     reply-sent (FileClose nos) = one _
 
-    answer-sent : (o : Receiver) (a : ProviderAnswer) → sent radio (isSending a) (providerSends p file a) ≡ queueOf p file o (replied r a)
+    answer-sent : (o : Receiver) (a : ProviderAnswer) → onTheWay radio (isSending a) (providerSends p file a) ≡ queueOf p file o (replied r a)
     answer-sent o (PA.Running reply) = reply-sent reply
     answer-sent o PA.Complete = refl
     answer-sent o (PA.Deactivated scq) = refl
@@ -74,9 +74,9 @@ module _ (p : Provider) (file : List ℕ) where
     answer-sent o (PA.Err e) = refl
 
   -- what the Receiver's does: it sends nothing, or there is no rest
-  data Apart (rest : List Passing) (sending : Bool) : Type 0 where
-    silent : sending ≡ false → Apart rest sending
-    last : rest ≡ [] → Apart rest sending
+  data Apart (rest : List Passing) (b : Bool) : Type 0 where
+    silent : b ≡ false → Apart rest b
+    last : rest ≡ [] → Apart rest b
 
   chosen : (r r′ : Receiver) (rest : Queue) (b : Bool) → queueOf p file r rest ≡ queueOf p file r′ rest → Apart (queueOf p file r rest) b
       → queueOf p file r rest ++ map (untouched byReceiver) (packetsOf (when b (T.Frame (awaited r′)) T.Nothing)) ≡ queueOf p file r′ (when b Q.Receiver rest)
@@ -182,9 +182,9 @@ module _ (file damage : List ℕ) (ca count : ℕ) where
     still-tuned true = tuned-next damage count few unnamed w radio tuned
     still-tuned false = tuned
 
-    asks : Fits (with-queue Q.Receiver) store → Next (with-queue Q.Receiver) store radio ps u v (untouched byReceiver (bare (awaited r)))
+    asks-on : Fits (with-queue Q.Receiver) store → Next (with-queue Q.Receiver) store radio ps u v (untouched byReceiver (bare (awaited r)))
     unfolding advanced
-    asks fits =
+    asks-on fits =
         let f : Frame = awaited r in
         let s : ProviderStep = provide p file (headerBy (r .procedure) f) U.Nothing (D.Frame f) [] in
         let same : s .provider .procedure ≡ p .procedure = station-same p file (headerBy (r .procedure) f) U.Nothing (D.Frame f) [] in
@@ -281,7 +281,7 @@ module _ (file damage : List ℕ) (ca count : ℕ) where
 
     sight-of : (q : Queue) → Fits (with-queue q) store → Sight (with-queue q) store radio ps u v
     sight-of Q.Empty fits = over refl
-    sight-of Q.Receiver fits = going (untouched byReceiver (bare (awaited r))) [] refl (asks fits)
+    sight-of Q.Receiver fits = going (untouched byReceiver (bare (awaited r))) [] refl (asks-on fits)
     sight-of (Q.Provider reply i d) fits = reply-sight reply i d fits (decLt i (length (replies p file reply)))
 
   -- the Receiver's start

@@ -10,6 +10,7 @@ use lib.ListN.{length, take, drop, length-append, length-drop, take-append-drop}
 use lib.Seq.{length-take-le}
 use borrow.Author.Tests.{leb-true, le-leb}
 use Rattle.laws.specs.When.{when}
+use Rattle.laws.proofs.Choices.{if-so, either}
 use Rattle.asdu.specs.declared.Nof.{Nof}
 use Rattle.asdu.specs.declared.Nos.{Nos}
 use Rattle.asdu.specs.declared.Lof.{Lof}
@@ -46,15 +47,6 @@ use Rattle.receive.specs.Answers.{Outcome, leaving, onFileReady, onSectionReady
 use Rattle.receive.specs.declared.Receiver.{Receiver}
 use Rattle.receive.specs.declared.ReceiverAnswer.{ReceiverAnswer}
 use Rattle.receive.specs.declared.ReceiverStep.{ReceiverStep}
-
--- what holds of both, of the first where the test holds, holds of the one that the test chooses
-if-so : {A : Type 0} (P : A → Type 0) (b : Bool) (x y : A) → (b ≡ true → P x) → P y → P (when b x y)
-unfolding when
-if-so P true x y h k = h refl
-if-so P false x y h k = k
-
-either : {A : Type 0} (P : A → Type 0) (b : Bool) (x y : A) → P x → P y → P (when b x y)
-either P b x y h k = if-so P b x y (λ e. h) k
 
 -- ---- the Provider: what ending and counting leave as it is, every frame does
 

@@ -22,13 +22,13 @@ use Rattle.provide.specs.declared.ProviderResult.the-variants as PM
 use Rattle.provide.specs.declared.Provider.{Provider}
 use Rattle.provide.proofs.Making.{made, made-agrees}
 use Rattle.provide.proofs.SectionLaws.{some-section, few-sections}
-use Rattle.receive.specs.Record.{freshReceiver, receiverMade, storeAgrees, sending, opening, select, stepped, startedWith, started}
+use Rattle.receive.specs.Record.{freshReceiver, receiverMade, storeAgrees, awaiting, opening, select, stepped, startedWith, started}
 use Rattle.receive.proofs.Making as R
 use Rattle.receive.specs.declared.Receiver.{Receiver}
 use Rattle.receive.specs.declared.ReceiverAnswer.{ReceiverAnswer}
 use Rattle.receive.specs.declared.ReceiverAnswer.the-variants as RA
 use Rattle.receive.specs.declared.ReceiverResult.the-variants as RM
-use Rattle.exchange.specs.Exchange.{Passing, Noise, Exchange, run, begun}
+use Rattle.exchange.specs.Exchange.{Passing, Noise, Exchange, run, begun, ownHeaders}
 use Rattle.exchange.specs.Transfer.{inOrder}
 use Rattle.exchange.specs.Damaging.{scriptRadio}
 use Rattle.exchange.proofs.Budget.{stays}
@@ -37,7 +37,7 @@ use Rattle.twoparty.specs.Shown.{firstOf}
 use Rattle.twoparty.proofs.Standing.{next-shown}
 use Rattle.run.specs.Loop.{Ran, isOver, whole, ranOn}
 use Rattle.radio.specs.Radio.{firstSection, allHaveOctets}
-use Rattle.run.specs.Run.{ownHeaders, exchangeOf, ending}
+use Rattle.run.specs.Run.{exchangeOf, ending}
 use Rattle.twoparty.specs.declared.Settings.{Settings}
 use Rattle.twoparty.specs.declared.TwoParty.{TwoParty}
 use Rattle.radio.proofs.Tuning.{Unnamed, Tuned, tuned-first}
@@ -81,7 +81,7 @@ module _ (file damage : List ℕ) (ca count : ℕ) (few : count ≤ 255) (none :
 -- ---- from the start
 
 -- a start leaves all of the record as it is but what was sent
-module _ {B : Type 0} (g : Receiver → B) (r : Receiver) (same : g (sending r opening) ≡ g r) where
+module _ {B : Type 0} (g : Receiver → B) (r : Receiver) (same : g (awaiting r opening) ≡ g r) where
   startedWith-same : (a : AsduResult) → g (startedWith r a .receiver) ≡ g r
   startedWith-same (A.Ok a) = same
   startedWith-same (A.Err e) = refl

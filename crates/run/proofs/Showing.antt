@@ -8,17 +8,17 @@ use Rattle.provide.specs.Sections.{sectionCount}
 use Rattle.provide.specs.declared.ProviderAnswer.{ProviderAnswer}
 use Rattle.provide.proofs.SectionLaws.{few-sections}
 use Rattle.receive.specs.declared.ReceiverAnswer.{ReceiverAnswer}
-use Rattle.exchange.specs.Exchange.{Passing, Noise, Exchange, run}
+use Rattle.exchange.specs.Exchange.{Passing, Noise, Exchange, run, ownHeaders}
 use Rattle.exchange.proofs.Budget.{stays, whole-frames}
 use Rattle.radio.proofs.Tuning.{Unnamed, Tuned}
 use Rattle.radio.proofs.Named.{unnamed}
-use Rattle.twoparty.specs.Party.{partyMade, advanced, went, stepped}
+use Rattle.twoparty.specs.Party.{partyMade, advanced, went, partyStepped}
 use Rattle.twoparty.specs.Shown.{shownAs, firstOf}
 use Rattle.twoparty.specs.declared.Settings.{Settings}
 use Rattle.twoparty.specs.declared.TwoParty.{TwoParty}
 use Rattle.twoparty.specs.declared.TwoPartyResult.the-variants as T
 use Rattle.twoparty.proofs.Standing.{next-shown}
-use Rattle.run.specs.Run.{ownHeaders, exchangeOf, scriptFrames}
+use Rattle.run.specs.Run.{exchangeOf, scriptFrames}
 use Rattle.run.specs.Shown.{shown}
 use Rattle.run.proofs.Following.{standsFor, Fits, Sight, over, going, sight}
 use Rattle.run.proofs.Running.{Accepted, beginning, from-start}
@@ -31,8 +31,8 @@ map-more f (y ∷ xs) x later = ap (λ r. f y ∷ r) (map-more f xs x later)
 
 module _ (file damage : List ℕ) (ca count : ℕ) (few : count ≤ 255) (none : Unnamed damage count) where
   -- no step of a record that fits is refused
-  step-goes : (t : TwoParty) (store : List ℕ) → Fits file damage ca count t store → stepped t file damage store ≡ went (advanced t file damage store)
-  unfolding stepped when
+  step-goes : (t : TwoParty) (store : List ℕ) → Fits file damage ca count t store → partyStepped t file damage store ≡ went (advanced t file damage store)
+  unfolding partyStepped when
   step-goes t store fits = simp (fits .agrees, fits .holds)
 
   -- with those that have passed before, the frames shown are those passed of its exchange

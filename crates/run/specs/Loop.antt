@@ -7,12 +7,12 @@ use Rattle.twoparty.specs.Party.{nextFrame, advanced}
 use Rattle.twoparty.specs.declared.TwoParty.{TwoParty}
 use Rattle.twoparty.specs.declared.TwoPartyResult.{TwoPartyResult}
 use Rattle.twoparty.specs.declared.TwoPartyResult.the-variants as T
-use Rattle.twoparty.specs.declared.Passing.{Passing}
-use Rattle.twoparty.specs.declared.Passing.the-variants as N
+use Rattle.twoparty.specs.declared.NextFrame.{NextFrame}
+use Rattle.twoparty.specs.declared.NextFrame.the-variants as N
 use Rattle.run.specs.declared.RunResult.{RunResult}
 use Rattle.run.specs.declared.RunResult.the-variants.{Whole, Spent, Err}
 
-abbrev pub isNothing : Passing → Bool
+abbrev pub isNothing : NextFrame → Bool
 isNothing N.Nothing = true
 isNothing (N.Frame sender f) = false
 isNothing (N.Err e) = true

@@ -1,5 +1,5 @@
 -- The two-party run (document 01, A transfer script): by its definition it is the exchange with no segment lost, both senders' counts added.
-use Prim.Native.Nat.{ℕ, _+_, _*_}
+use Prim.Native.Nat.{ℕ, _+_}
 use mathlib.Core.List.{List, [], _∷_}
 use lib.Dec.{leb}
 use lib.ListN.{length}
@@ -9,12 +9,11 @@ use Rattle.asdu.specs.declared.FtError.{FtError}
 use Rattle.asdu.specs.declared.FtError.the-variants as E
 use Rattle.ft.specs.Directions.{otherRole}
 use Rattle.ft.specs.Procedure.{addressed}
-use Rattle.ft.specs.Building.{headerOf}
-use Rattle.provide.specs.Sections.{sectionLength, sectionCount, sections}
+use Rattle.provide.specs.Sections.{sectionLength, sectionCount}
 use Rattle.provide.specs.Record.{freshProvider}
 use Rattle.receive.specs.Record.{freshReceiver}
-use Rattle.exchange.specs.Exchange.{Passing, Exchange, Headers, run, begun}
-use Rattle.exchange.specs.Transfer.{Sendings, inOrder, sendingFrames, damagedSendings}
+use Rattle.exchange.specs.Exchange.{Passing, Exchange, ownHeaders, run, begun}
+use Rattle.exchange.specs.Transfer.{Sendings, inOrder, providerCount, receiverCount}
 use Rattle.exchange.specs.Damaging.{scriptRadio}
 use Rattle.twoparty.specs.Party.{stationOf}
 use Rattle.run.specs.Loop.{Ran}
@@ -22,10 +21,6 @@ use Rattle.radio.specs.Radio.{allHaveOctets}
 use Rattle.twoparty.specs.declared.Settings.{Settings}
 use Rattle.run.specs.declared.RunResult.{RunResult}
 use Rattle.run.specs.declared.RunResult.the-variants.{Whole, Spent, Err}
-
--- both stations have this common address and no originator
-abbrev pub ownHeaders : ℕ → Headers
-ownHeaders ca before x = headerOf ca 0 (x .packet .frame)
 
 -- the exchange of these settings, after so many frames
 abbrev pub exchangeOf : Settings → List ℕ → List ℕ → List ℕ → ℕ → Exchange
@@ -55,9 +50,8 @@ twoParty s file damage store budget =
     (unless (leb (length file) (length store)) (refused store E.StoreFull)
     (ending (exchangeOf s file damage store budget))))))
 
--- how many frames a script takes: those of the Provider and those of the Receiver, by the two-party theorem's counts
+-- how many frames a script takes: both counts of the two-party theorem together
 unfoldable pub scriptFrames : Settings → List ℕ → List ℕ → ℕ
 scriptFrames s file damage =
     let radio : List Sendings = scriptRadio damage 1 (sectionCount (length file)) in
-    2 + sectionCount (length file) + sendingFrames (segmentLimit (s .sizes)) (sections file) radio
-    + (3 + 2 * sectionCount (length file) + damagedSendings radio)
+    providerCount (segmentLimit (s .sizes)) file radio + receiverCount file radio

@@ -1,7 +1,7 @@
 // The two-party run (document 01, A transfer script): frame after frame, until none is left or the next
 // one would exceed the budget.
 use asdu::FtError;
-use twoparty::Passing;
+use twoparty::NextFrame;
 use twoparty::Settings;
 use twoparty::TwoParty;
 use twoparty::TwoPartyResult;
@@ -17,13 +17,13 @@ pub enum RunResult {
 }
 
 // No frame passes next.
-fn is_nothing(next: Passing) -> bool
+fn is_nothing(next: NextFrame) -> bool
     ensures { λ r. ⌜ r ≡ isNothing next ⌝ }
 {
     match next {
-        Passing::Nothing => true,
-        Passing::Frame { .. } => false,
-        Passing::Err(_) => true,
+        NextFrame::Nothing => true,
+        NextFrame::Frame { .. } => false,
+        NextFrame::Err(_) => true,
     }
 }
 

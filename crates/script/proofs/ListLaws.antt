@@ -6,7 +6,7 @@ use native.Mathlib.Numerals.{add-one}
 use native.Mathlib.Omega.{arith}
 use lib.ListN.{length, take, drop, set}
 use lib.Seq.{take-suc-set, drop-set-lt, drop-drop}
-use Rattle.script.specs.Reader.{Found, nothing, found, thenRead, after, numbers}
+use Rattle.script.specs.Reader.{Found, nothing, found, thenRead, spacedNumber, numbers}
 
 -- octets that were read, in front of those that are found next
 abbrev pub behind : List ℕ → Found (List ℕ) → Found (List ℕ)
@@ -25,13 +25,13 @@ module _ (n i : ℕ) (h : i < n) where
   one-less = omega arith
 
   -- one octet more
-  pub numbers-on : (out t rest : List ℕ) (x : ℕ) → i < length out → found x rest ≡ after 255 t
+  pub numbers-on : (out t rest : List ℕ) (x : ℕ) → i < length out → found x rest ≡ spacedNumber 255 t
       → behind (take (i + 1) (set out i x)) (numbers (n - (i + 1)) rest) ≡ behind (take i out) (numbers (n - i) t)
   unfolding numbers
   numbers-on out t rest x g e =
       rw (one-less, ← e, add-one, take-suc-set out i x g) (sym (behind-one (take i out) x (numbers (n - suc i) rest)))
 
-  pub numbers-off : (xs t : List ℕ) → nothing ≡ after 255 t → nothing ≡ behind xs (numbers (n - i) t)
+  pub numbers-off : (xs t : List ℕ) → nothing ≡ spacedNumber 255 t → nothing ≡ behind xs (numbers (n - i) t)
   unfolding numbers
   numbers-off xs t e = rw (one-less, ← e)
 

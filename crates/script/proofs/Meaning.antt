@@ -13,7 +13,7 @@ use Rattle.laws.proofs.Decide.{whens}
 use Rattle.asdu.proofs.Range.{both}
 use Rattle.script.specs.Decimal.{decimal, spaced}
 use Rattle.script.specs.Script.{Script, Octets, Right, textOf}
-use Rattle.script.specs.Reader.{Found, nothing, found, thenRead, begins, beginsDigit, after, numbers, counted, Settings, settings, ends, sections, ended, scriptOf}
+use Rattle.script.specs.Reader.{Found, nothing, found, thenRead, begins, beginsDigit, spacedNumber, numbers, countedOctets, ScriptSettings, settings, ends, scriptBody, wholeScript, scriptOf}
 use Rattle.script.proofs.Decimals.{either, decimal-one}
 use Rattle.script.proofs.NumberLaws.{after-text, after-found, holds}
 use Rattle.script.proofs.Stages.{whole}
@@ -27,7 +27,7 @@ module _ (t : List ℕ) (e : beginsDigit t ≡ false) where
   space-first [] = e
   space-first (n ∷ ns) = refl
 
-  after-spaced : (limit v : ℕ) (ns : List ℕ) → v ≤ limit → after limit (spaced (v ∷ ns) ++ t) ≡ found v (spaced ns ++ t)
+  after-spaced : (limit v : ℕ) (ns : List ℕ) → v ≤ limit → spacedNumber limit (spaced (v ∷ ns) ++ t) ≡ found v (spaced ns ++ t)
   after-spaced limit v ns h = rw append-assoc (after-text limit v (spaced ns ++ t) h (space-first ns))
 
   numbers-spaced : (xs ns : List ℕ) → Octets xs → numbers (length xs) (spaced (xs ++ ns) ++ t) ≡ found xs (spaced ns ++ t)
@@ -35,8 +35,8 @@ module _ (t : List ℕ) (e : beginsDigit t ≡ false) where
   numbers-spaced [] ns h = refl
   numbers-spaced (x ∷ xs) ns h = rw (after-spaced 255 x (xs ++ ns) (h .0), numbers-spaced xs ns (h .1))
 
-  counted-spaced : (limit : ℕ) (xs ns : List ℕ) → length xs ≤ limit → Octets xs → counted limit (spaced (length xs ∷ (xs ++ ns)) ++ t) ≡ found xs (spaced ns ++ t)
-  unfolding counted
+  counted-spaced : (limit : ℕ) (xs ns : List ℕ) → length xs ≤ limit → Octets xs → countedOctets limit (spaced (length xs ∷ (xs ++ ns)) ++ t) ≡ found xs (spaced ns ++ t)
+  unfolding countedOctets
   counted-spaced limit xs ns l h = rw (after-spaced limit (length xs) (xs ++ ns) l) (numbers-spaced xs ns h)
 
   settings-spaced : (o n : ℕ) (ns : List ℕ) → o ≤ 16777215 → n ≤ 65535
@@ -96,7 +96,7 @@ numbers-found : (n : ℕ) (t xs rest : List ℕ) → numbers n t ≡ found xs re
 unfolding numbers
 numbers-found zero t xs rest h = moved (Listed zero t) h (record { count = refl; octets = tt; text = refl })
 numbers-found (suc n) t xs rest h =
-    let k = then-found (after 255 t) h in
+    let k = then-found (spacedNumber 255 t) h in
     let j = then-found (numbers n (k .left)) (k .then) in
     moved (Listed (suc n) t) (j .then)
     (one-more n (k .first) t (k .left) (j .first) (j .left) (after-found 255 (k .first) (k .left) t (k .was)) (numbers-found n (k .left) (j .first) (j .left) (j .was)))
@@ -111,14 +111,14 @@ counted-text : (limit n : ℕ) (t left xs rest : List ℕ) → (n ≤ limit) × 
 counted-text limit n t left xs rest f i =
     record { small = rw (i .count) (f .0); octets = i .octets; text = rw (f .1, i .text, i .count) }
 
-counted-found : (limit : ℕ) (t xs rest : List ℕ) → counted limit t ≡ found xs rest → Counted limit t xs rest
-unfolding counted
+counted-found : (limit : ℕ) (t xs rest : List ℕ) → countedOctets limit t ≡ found xs rest → Counted limit t xs rest
+unfolding countedOctets
 counted-found limit t xs rest h =
-    let k = then-found (after limit t) h in
+    let k = then-found (spacedNumber limit t) h in
     counted-text limit (k .first) t (k .left) xs rest (after-found limit (k .first) (k .left) t (k .was)) (numbers-found (k .first) (k .left) xs rest (k .then))
 
 -- the settings after their count
-record Set (t : List ℕ) (s : Settings) (rest : List ℕ) : Type 0 where
+record Set (t : List ℕ) (s : ScriptSettings) (rest : List ℕ) : Type 0 where
   object : s .object ≤ 16777215
   nof : s .nof ≤ 65535
   text : t ≡ 50 ∷ 32 ∷ (decimal (s .object) ++ (32 ∷ (decimal (s .nof) ++ rest)))
@@ -127,13 +127,13 @@ settings-text : (x o n : ℕ) (t u rest : List ℕ) → x ≡ 50 → (o ≤ 1677
     → Set (x ∷ t) (record { object = o; nof = n }) rest
 settings-text x o n t u rest e f g = record { object = f .0; nof = g .0; text = rw (e, f .1, g .1) }
 
-settings-found : (t : List ℕ) (s : Settings) (rest : List ℕ) → settings t ≡ found s rest → Set t s rest
+settings-found : (t : List ℕ) (s : ScriptSettings) (rest : List ℕ) → settings t ≡ found s rest → Set t s rest
 unfolding settings begins
 settings-found [] s rest h = let z : _≡_ {A = ℕ} 0 1 = cc (holds _ h .0) in absurd (omega arith)
 settings-found (x ∷ t) s rest h =
     let b = holds (eqb x 50) h in
-    let k = then-found (after 16777215 t) (b .1) in
-    let j = then-found (after 65535 (k .left)) (k .then) in
+    let k = then-found (spacedNumber 16777215 t) (b .1) in
+    let j = then-found (spacedNumber 65535 (k .left)) (k .then) in
     moved (Set (x ∷ t)) (j .then)
     (settings-text x (k .first) (j .first) t (k .left) (j .left) (eqb-true _ _ (b .0)) (after-found 16777215 (k .first) (k .left) t (k .was)) (after-found 65535 (j .first) (j .left) (k .left) (j .was)))
 
@@ -153,7 +153,7 @@ record Read (t : List ℕ) (s : Script) (rest : List ℕ) : Type 0 where
   right : Right s
   text : rest ≡ 10 ∷ [] → t ≡ textOf s
 
-script-text : (t t₁ t₂ t₃ : List ℕ) (s : Settings) (file damage : List ℕ) → Set t s t₁ → Counted 8192 t₁ file t₂ → Counted 255 t₂ damage t₃
+script-text : (t t₁ t₂ t₃ : List ℕ) (s : ScriptSettings) (file damage : List ℕ) → Set t s t₁ → Counted 8192 t₁ file t₂ → Counted 255 t₂ damage t₃
     → Read t (record { object = s .object; nof = s .nof; file = file; damage = damage }) t₃
 unfolding textOf
 script-text t t₁ t₂ t₃ s file damage a f d =
@@ -162,20 +162,20 @@ script-text t t₁ t₂ t₃ s file damage a f d =
       text = λ e. rw (a .text, f .text, d .text, e, decimal-one 2 (omega arith)) (simp (spaced-append, append-assoc));
     }
 
-sections-found : (t : List ℕ) (s : Script) (rest : List ℕ) → sections t ≡ found s rest → Read t s rest
-unfolding sections
+sections-found : (t : List ℕ) (s : Script) (rest : List ℕ) → scriptBody t ≡ found s rest → Read t s rest
+unfolding scriptBody
 sections-found t s rest h =
     let k = then-found (settings t) h in
-    let f = then-found (counted 8192 (k .left)) (k .then) in
-    let d = then-found (counted 255 (f .left)) (f .then) in
+    let f = then-found (countedOctets 8192 (k .left)) (k .then) in
+    let d = then-found (countedOctets 255 (f .left)) (f .then) in
     moved (Read t) (d .then)
     (script-text t (k .left) (f .left) (d .left) (k .first) (f .first) (d .first) (settings-found t (k .first) (k .left) (k .was)) (counted-found 8192 (k .left) (f .first) (f .left) (f .was)) (counted-found 255 (f .left) (d .first) (d .left) (d .was)))
 
 pub read-right : (t : List ℕ) (s : Script) → scriptOf t ≡ some s → Right s × (t ≡ textOf s)
 unfolding scriptOf
-read-right t s h = go (sections t) (sections-found t) h
+read-right t s h = go (scriptBody t) (sections-found t) h
   where
-    go : (m : Found Script) → ((s : Script) (rest : List ℕ) → m ≡ found s rest → Read t s rest) → ended m ≡ some s → Right s × (t ≡ textOf s)
+    go : (m : Found Script) → ((s : Script) (rest : List ℕ) → m ≡ found s rest → Read t s rest) → wholeScript m ≡ some s → Right s × (t ≡ textOf s)
     go nothing f e = let z : _≡_ {A = ℕ} 0 1 = cc in absurd (omega arith)
     go (found x rest) f e =
         either (ends rest)

@@ -11,7 +11,7 @@ use Rattle.laws.specs.When.{when}
 use Rattle.laws.proofs.Decide.{whens}
 use Rattle.asdu.proofs.Range.{both}
 use Rattle.script.specs.Decimal.{decimal}
-use Rattle.script.specs.Reader.{Found, nothing, found, begins, isDigit, beginsDigit, more, number, after}
+use Rattle.script.specs.Reader.{Found, nothing, found, begins, isDigit, beginsDigit, more, number, spacedNumber}
 use Rattle.script.proofs.Decimals.{either, decimal-next, decimal-one, decimal-more}
 use Rattle.script.proofs.ReaderLaws.{more-stop}
 
@@ -34,8 +34,8 @@ module _ (limit : ℕ) where
       (simp (whens, le-leb (v / 10) limit (omega arith), le-leb 48 (48 + v % 10) (omega arith), le-leb (48 + v % 10) 57 (omega arith), ne-eqb (v / 10) 0 (λ z. omega arith), w)))
 
   -- a number after a space, where no digit follows it
-  pub after-text : (v : ℕ) (t : List ℕ) → v ≤ limit → beginsDigit t ≡ false → after limit (32 ∷ (decimal v ++ t)) ≡ found v t
-  unfolding after begins
+  pub after-text : (v : ℕ) (t : List ℕ) → v ≤ limit → beginsDigit t ≡ false → spacedNumber limit (32 ∷ (decimal v ++ t)) ≡ found v t
+  unfolding spacedNumber begins
   after-text v t s e = simp whens (read-decimal (suc v) v (omega arith) s t ∙ more-stop limit v t s e)
 
 -- ---- from a text to its number and back
@@ -92,8 +92,8 @@ module _ (limit w : ℕ) (rest : List ℕ) where
       record { small = i .small; spelled = (rw (decimal-one (x - 48) (omega arith), same) at (i .spelled)) }
 
   -- a number found after a space
-  pub after-found : (t : List ℕ) → after limit t ≡ found w rest → (w ≤ limit) × (t ≡ 32 ∷ (decimal w ++ rest))
-  unfolding after begins
+  pub after-found : (t : List ℕ) → spacedNumber limit t ≡ found w rest → (w ≤ limit) × (t ≡ 32 ∷ (decimal w ++ rest))
+  unfolding spacedNumber begins
   after-found [] h = let z : _≡_ {A = ℕ} 0 1 = cc (holds _ h .0) in absurd (omega arith)
   after-found (x ∷ t) h =
       let k = holds (eqb x 32) h in

@@ -11,7 +11,7 @@ use lib.Seq.{drop-cons, drop-drop}
 use borrow.Author.Tests.{ltb-true, ltb-false, leb-true, le-leb, lt-leb, ne-eqb}
 use Rattle.laws.proofs.Decide.{whens, when-true}
 use Rattle.asdu.proofs.Range.{both}
-use Rattle.script.specs.Reader.{nothing, found, begins, beginsDigit, more, number, after}
+use Rattle.script.specs.Reader.{nothing, found, begins, beginsDigit, more, number, spacedNumber}
 
 no-digit : beginsDigit [] ≡ false
 unfolding beginsDigit
@@ -62,8 +62,8 @@ module _ (text : List ℕ) (at : ℕ) where
   unfolding number
   number-here limit h = let w = inside beginsDigit no-digit h in rw (when-true _ _ _ h) (rw (here w))
 
-  pub after-here : (limit : ℕ) → begins 32 (drop at text) ≡ true → after limit (drop at text) ≡ number limit (drop (at + 1) text)
-  unfolding after
+  pub after-here : (limit : ℕ) → begins 32 (drop at text) ≡ true → spacedNumber limit (drop at text) ≡ number limit (drop (at + 1) text)
+  unfolding spacedNumber
   after-here limit h = rw (when-true _ _ _ h, drop-drop)
 
 pub more-stop : (limit v : ℕ) (t : List ℕ) → v ≤ limit → beginsDigit t ≡ false → more limit v t ≡ found v t

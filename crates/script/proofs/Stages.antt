@@ -14,31 +14,31 @@ use Rattle.asdu.specs.declared.FtError.the-variants.{ScriptMisshapen}
 use Rattle.script.specs.declared.Outline.{Outline}
 use Rattle.script.specs.declared.ScriptResult.the-variants.{Ok, Err}
 use Rattle.script.specs.Script.{Script}
-use Rattle.script.specs.Reader.{nothing, found, Settings, settings, counted, ends, sections, scriptOf}
+use Rattle.script.specs.Reader.{nothing, found, ScriptSettings, settings, countedOctets, ends, scriptBody, scriptOf}
 use Rattle.script.specs.Answers.{answerOf, over, Filled, fileAfter, damageAfter}
 
 module _ (t : List ℕ) where
   pub no-settings : nothing ≡ settings t → scriptOf t ≡ none
-  unfolding scriptOf sections
+  unfolding scriptOf scriptBody
   no-settings e = rw (← e)
 
-  module _ {s : Settings} {t₁ : List ℕ} (e₁ : found s t₁ ≡ settings t) where
-    pub no-file : nothing ≡ counted 8192 t₁ → scriptOf t ≡ none
-    unfolding scriptOf sections
+  module _ {s : ScriptSettings} {t₁ : List ℕ} (e₁ : found s t₁ ≡ settings t) where
+    pub no-file : nothing ≡ countedOctets 8192 t₁ → scriptOf t ≡ none
+    unfolding scriptOf scriptBody
     no-file e = rw (← e₁, ← e)
 
-    module _ {file t₂ : List ℕ} (e₂ : found file t₂ ≡ counted 8192 t₁) where
-      pub no-damage : nothing ≡ counted 255 t₂ → scriptOf t ≡ none
-      unfolding scriptOf sections
+    module _ {file t₂ : List ℕ} (e₂ : found file t₂ ≡ countedOctets 8192 t₁) where
+      pub no-damage : nothing ≡ countedOctets 255 t₂ → scriptOf t ≡ none
+      unfolding scriptOf scriptBody
       no-damage e = rw (← e₁, ← e₂, ← e)
 
-      module _ {damage t₃ : List ℕ} (e₃ : found damage t₃ ≡ counted 255 t₂) where
+      module _ {damage t₃ : List ℕ} (e₃ : found damage t₃ ≡ countedOctets 255 t₂) where
         pub no-end : ends t₃ ≡ false → scriptOf t ≡ none
-        unfolding scriptOf sections
+        unfolding scriptOf scriptBody
         no-end e = rw (← e₁, ← e₂, ← e₃) (simp (whens, e))
 
         pub whole : ends t₃ ≡ true → scriptOf t ≡ some (record { object = s .object; nof = s .nof; file = file; damage = damage })
-        unfolding scriptOf sections
+        unfolding scriptOf scriptBody
         whole e = rw (← e₁, ← e₂, ← e₃) (simp (whens, e))
 
 -- ---- the buffers

@@ -6,11 +6,11 @@ use mathlib.Core.List.{List, _++_}
 use lib.ListN.{length, take, drop}
 use Rattle.asdu.specs.declared.FtError.the-variants.{ScriptMisshapen}
 use Rattle.script.specs.Script.{Script}
-use Rattle.script.specs.Reader.{Found, nothing, found, Settings}
+use Rattle.script.specs.Reader.{Found, nothing, found, ScriptSettings}
 use Rattle.script.specs.declared.read.Reading.{Reading}
 use Rattle.script.specs.declared.read.Reading.the-variants as R
-use Rattle.script.specs.declared.read.Settings as D
-use Rattle.script.specs.declared.read.Settings.the-variants as S
+use Rattle.script.specs.declared.read.SettingsRead.{SettingsRead}
+use Rattle.script.specs.declared.read.SettingsRead.the-variants as S
 use Rattle.script.specs.declared.ScriptResult.{ScriptResult}
 use Rattle.script.specs.declared.ScriptResult.the-variants.{Ok, Err}
 
@@ -30,7 +30,7 @@ Kept was is (R.Number count next) = (count ≤ length is) × (drop count is ≡ 
 Kept was is R.Nothing = Unit {0}
 
 -- the settings found
-abbrev pub settingsAt : List ℕ → D.Settings → Found Settings
+abbrev pub settingsAt : List ℕ → SettingsRead → Found ScriptSettings
 settingsAt text (S.Are ioa nof next) = found (record { object = ioa; nof = nof .value }) (drop next text)
 settingsAt text S.Nothing = nothing
 

@@ -7,7 +7,7 @@ use mathlib.Core.List.{List, [], _∷_}
 use lib.Dec.{eqb, leb}
 use lib.ListN.{length, drop, getD}
 use Rattle.laws.specs.When.{when, _and_}
-use Rattle.script.specs.Script.{Script}
+use Rattle.script.specs.Script.{maxObject, maxNof, maxFile, maxDamage, Script}
 
 -- what stands at the front of a text, and what follows it; or nothing
 pub data Found (A : Type 0) : Type 0 where
@@ -43,27 +43,27 @@ unfoldable pub number : ℕ → List ℕ → Found ℕ
 number limit t = when (beginsDigit t) (more limit (getD t 0 0 - 48) (drop 1 t)) nothing
 
 -- a number after one space
-unfoldable pub after : ℕ → List ℕ → Found ℕ
-after limit t = when (begins 32 t) (number limit (drop 1 t)) nothing
+unfoldable pub spacedNumber : ℕ → List ℕ → Found ℕ
+spacedNumber limit t = when (begins 32 t) (number limit (drop 1 t)) nothing
 
 -- so many octets, each after one space
 unfoldable pub numbers : ℕ → List ℕ → Found (List ℕ)
 numbers zero t = found [] t
-numbers (suc n) t = thenRead (after 255 t) (λ x rest. thenRead (numbers n rest) (λ xs end. found (x ∷ xs) end))
+numbers (suc n) t = thenRead (spacedNumber 255 t) (λ x rest. thenRead (numbers n rest) (λ xs end. found (x ∷ xs) end))
 
 -- octets after their count
-unfoldable pub counted : ℕ → List ℕ → Found (List ℕ)
-counted limit t = thenRead (after limit t) numbers
+unfoldable pub countedOctets : ℕ → List ℕ → Found (List ℕ)
+countedOctets limit t = thenRead (spacedNumber limit t) numbers
 
-pub record Settings : Type 0 where
+pub record ScriptSettings : Type 0 where
   pub object : ℕ
   pub nof : ℕ
 
 -- the settings after their count, which is 2: 50 in ASCII
-unfoldable pub settings : List ℕ → Found Settings
+unfoldable pub settings : List ℕ → Found ScriptSettings
 settings t =
     when (begins 50 t)
-    (thenRead (after 16777215 (drop 1 t)) (λ object t₁. thenRead (after 65535 t₁) (λ nof t₂. found (record { object = object; nof = nof }) t₂)))
+    (thenRead (spacedNumber maxObject (drop 1 t)) (λ object t₁. thenRead (spacedNumber maxNof t₁) (λ nof t₂. found (record { object = object; nof = nof }) t₂)))
     nothing
 
 -- one newline and nothing more
@@ -71,17 +71,17 @@ unfoldable pub ends : List ℕ → Bool
 ends t = begins 10 t and eqb (length t) 1
 
 -- a script but for its end
-unfoldable pub sections : List ℕ → Found Script
-sections t =
+unfoldable pub scriptBody : List ℕ → Found Script
+scriptBody t =
     thenRead (settings t)
-    (λ s t₁. thenRead (counted 8192 t₁) (λ file t₂. thenRead (counted 255 t₂)
+    (λ s t₁. thenRead (countedOctets maxFile t₁) (λ file t₂. thenRead (countedOctets maxDamage t₂)
     (λ damage t₃. found (record { object = s .object; nof = s .nof; file = file; damage = damage }) t₃)))
 
 -- a script that its text ends
-abbrev pub ended : Found Script → Option Script
-ended nothing = none
-ended (found s rest) = when (ends rest) (some s) none
+abbrev pub wholeScript : Found Script → Option Script
+wholeScript nothing = none
+wholeScript (found s rest) = when (ends rest) (some s) none
 
 -- the script that a whole text is
 unfoldable pub scriptOf : List ℕ → Option Script
-scriptOf t = ended (sections t)
+scriptOf t = wholeScript (scriptBody t)

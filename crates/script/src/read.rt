@@ -8,8 +8,20 @@ ghost use mathlib.Core.Path.{_≡_};
 ghost use mathlib.Core.Bool.{true};
 ghost use Prim.Native.Nat.{_-_, _≤_, _<_};
 ghost use lib.ListN.{length, drop, getD};
-ghost use Rattle.script.specs.Reader.{begins, beginsDigit, more, number, after, numbers, counted, settings, ends, scriptOf};
+ghost use Rattle.script.specs.Reader.{begins, beginsDigit, more, number, spacedNumber, numbers, countedOctets, settings, ends, scriptOf};
 ghost use Rattle.script.specs.Answers.{foundAt, octetsAt, Kept, settingsAt, answerOf, Filled, fileAfter, damageAfter};
+
+// The largest object address that three octets hold, and the largest name of a file.
+const MAX_OBJECT: u32 = 0xFF_FFFF;
+
+const MAX_NAME: u32 = 0xFFFF;
+
+// The most octets of a file, and the most sections that its damage names.
+const MAX_FILE: u32 = 8192;
+
+const MAX_DAMAGE: u32 = 255;
+
+const MAX_OCTET: u32 = 255;
 
 // A number and the place after it.
 enum Reading {
@@ -18,7 +30,7 @@ enum Reading {
 }
 
 // The settings and the place after them.
-enum Settings {
+enum SettingsRead {
     Are { ioa: u32, nof: Nof, next: usize },
     Nothing,
 }
@@ -89,7 +101,7 @@ fn number_at(text: &[u8], at: usize, limit: u32) -> Reading
 // A number after one space.
 fn after_at(text: &[u8], at: usize, limit: u32) -> Reading
     requires { ⌜ limit ≤ 16777215 ⌝ }
-    ensures { λ r. ⌜ foundAt (now (text .entry)) r ≡ after limit (drop at (now (text .entry))) ⌝ }
+    ensures { λ r. ⌜ foundAt (now (text .entry)) r ≡ spacedNumber limit (drop at (now (text .entry))) ⌝ }
 {
     if is_at(text, at, b' ') {
         return number_at(text, at + 1, limit);
@@ -105,7 +117,7 @@ fn numbers_at(text: &[u8], at: usize, count: u32, out: &mut [u8]) -> Reading
     let mut next = at;
     let mut i: u32 = 0;
     while i < count {
-        let reading = after_at(text, next, 255);
+        let reading = after_at(text, next, MAX_OCTET);
         let Reading::Number { value, next: place } = reading else {
             return Reading::Nothing;
         };
@@ -119,7 +131,7 @@ fn numbers_at(text: &[u8], at: usize, count: u32, out: &mut [u8]) -> Reading
 // So many octets after their count.
 fn counted_at(text: &[u8], at: usize, limit: u32, out: &mut [u8]) -> Reading
     requires { ⌜ (limit ≤ 16777215) × (limit ≤ length (now out)) ⌝ }
-    ensures { λ r. ⌜ (octetsAt (now (text .entry)) (now (out .exit)) r ≡ counted limit (drop at (now (text .entry)))) × Kept (now (out .entry)) (now (out .exit)) r ⌝ }
+    ensures { λ r. ⌜ (octetsAt (now (text .entry)) (now (out .exit)) r ≡ countedOctets limit (drop at (now (text .entry)))) × Kept (now (out .entry)) (now (out .exit)) r ⌝ }
 {
     let count = after_at(text, at, limit);
     let Reading::Number { value, next } = count else {
@@ -129,21 +141,21 @@ fn counted_at(text: &[u8], at: usize, limit: u32, out: &mut [u8]) -> Reading
 }
 
 // The settings after their count.
-fn settings_of(text: &[u8]) -> Settings
+fn settings_of(text: &[u8]) -> SettingsRead
     ensures { λ r. ⌜ settingsAt (now (text .entry)) r ≡ settings (now (text .entry)) ⌝ }
 {
     if !is_at(text, 0, b'2') {
-        return Settings::Nothing;
+        return SettingsRead::Nothing;
     }
-    let object = after_at(text, 1, 16777215);
+    let object = after_at(text, 1, MAX_OBJECT);
     let Reading::Number { value: ioa, next } = object else {
-        return Settings::Nothing;
+        return SettingsRead::Nothing;
     };
-    let name = after_at(text, next, 65535);
+    let name = after_at(text, next, MAX_NAME);
     let Reading::Number { value, next } = name else {
-        return Settings::Nothing;
+        return SettingsRead::Nothing;
     };
-    Settings::Are {
+    SettingsRead::Are {
         ioa,
         nof: Nof {
             value: value as u16,
@@ -168,10 +180,10 @@ fn script_in(text: &[u8], file: &mut [u8], damage: &mut [u8]) -> ScriptResult
     ensures { λ r. ⌜ (r ≡ answerOf (scriptOf (now (text .entry)))) × Filled (scriptOf (now (text .entry))) (now (file .entry)) (now (file .exit)) (now (damage .entry)) (now (damage .exit)) ⌝ }
 {
     let head = settings_of(text);
-    let Settings::Are { ioa, nof, next } = head else {
+    let SettingsRead::Are { ioa, nof, next } = head else {
         return ScriptResult::Err(FtError::ScriptMisshapen);
     };
-    let octets = counted_at(text, next, 8192, file);
+    let octets = counted_at(text, next, MAX_FILE, file);
     let Reading::Number {
         value: file_len,
         next,
@@ -179,7 +191,7 @@ fn script_in(text: &[u8], file: &mut [u8], damage: &mut [u8]) -> ScriptResult
     else {
         return ScriptResult::Err(FtError::ScriptMisshapen);
     };
-    let sections = counted_at(text, next, 255, damage);
+    let sections = counted_at(text, next, MAX_DAMAGE, damage);
     let Reading::Number {
         value: damage_len,
         next,

@@ -9,6 +9,7 @@ use lib.Dec.{eqb, ltb}
 use lib.ListN.{length, length-take}
 use borrow.Author.Tests.{eqb-true, ltb-true, leb-true}
 use Rattle.laws.specs.When.{when}
+use Rattle.laws.proofs.Choices.{either}
 use Rattle.asdu.specs.declared.Nos.{Nos}
 use Rattle.asdu.specs.declared.FtError.{FtError}
 use Rattle.frame.specs.declared.Frame.{Frame}
@@ -33,14 +34,9 @@ module _ (p : Provider) (file : List ℕ) where
   abbrev Short : PartResult → Type 0
   Short q = length (payloadOf file q) ≤ 240
 
-  either-short : (b : Bool) (x y : PartResult) → Short x → Short y → Short (when b x y)
-  unfolding when
-  either-short true x y h k = h
-  either-short false x y h k = k
-
   only-short : (i : ℕ) → Short (onlyPart i)
   unfolding onlyPart partOctets
-  only-short i = either-short (eqb i 0) _ (Q.Err _) (omega arith) (omega arith)
+  only-short i = either Short (eqb i 0) _ (Q.Err _) (omega arith) (omega arith)
 
   -- no part is longer than its length
   part-most : (q : Part) → length (partOctets q file) ≤ q .length
@@ -53,13 +49,13 @@ module _ (p : Provider) (file : List ℕ) where
   part-at-short FileReady i = only-short i
   part-at-short (SectionReady nos) i = only-short i
   part-at-short (Section nos) i =
-      either-short (ltb i (segmentCount p file nos)) _ _
+      either Short (ltb i (segmentCount p file nos)) _ _
       (le-trans (part-most _) (le-trans (segment-most (limitOf p) (octetsOf p file nos) i) (limit-most (p .procedure .sizes)))) (only-short _)
   part-at-short (FileClose nos) i = only-short i
 
   pub payload-short : (r : Reply) (i : ℕ) → Short (replyPayload p file r i)
   unfolding replyPayload
-  payload-short r i = either-short (fileAgrees p file) _ (Q.Err _) (part-at-short r i) (omega arith)
+  payload-short r i = either Short (fileAgrees p file) _ (Q.Err _) (part-at-short r i) (omega arith)
 
 -- ---- indices
 

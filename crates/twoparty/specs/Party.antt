@@ -1,4 +1,5 @@
--- The two-party run, frame by frame, as its record keeps it: the queue is one frame of the Receiver's, or the rest of one reply of the Provider's.
+-- The exchange a second time, as the code's record keeps it: the queue is one frame of the Receiver's, or the rest of one reply of the Provider's, and the sendings to come are a section and a number.
+-- What a customer must believe is the exchange (exchange/specs/Exchange.antt). These laws tie the two: `next-shown` (proofs/Standing.antt), that the frame shown is the first of the exchange's queue; `sight` (run/proofs/Following.antt), that a step here is a step there; `run-is` (run/proofs/Running.antt) and `frames-shown` (run/proofs/Showing.antt), that whole runs are the same.
 use Prim.Native.Nat.{ℕ, zero, suc, _+_, _-_}
 use mathlib.Core.Bool.{Bool, true, false}
 use mathlib.Core.List.{List, [], _∷_}
@@ -13,8 +14,6 @@ use Rattle.ft.specs.Directions.{otherRole}
 use Rattle.ft.specs.Building.{headerOf}
 use Rattle.ft.specs.declared.Received.the-variants as D
 use Rattle.ft.specs.declared.Role.{Role}
-use Rattle.ft.specs.declared.Role.the-variants.{Controlling, Controlled}
-use Rattle.ft.specs.declared.Selection.{Selection}
 use Rattle.ft.specs.declared.FileTransferProcedure.{FileTransferProcedure}
 use Rattle.provide.specs.Record.{providerMade, fileAgrees}
 use Rattle.provide.specs.Replies.{replyFrame, replyPayload, payloadOf}
@@ -35,7 +34,8 @@ use Rattle.receive.specs.declared.ReceiverStep.{ReceiverStep}
 use Rattle.receive.specs.declared.ReceiverAnswer.{ReceiverAnswer}
 use Rattle.receive.specs.declared.ReceiverResult.{ReceiverResult}
 use Rattle.receive.specs.declared.ReceiverResult.the-variants as RM
-use Rattle.exchange.specs.Exchange.{isSending}
+use Rattle.exchange.specs.Exchange.{isSection, isSending}
+use Rattle.exchange.specs.Stations.{stationWith}
 use Rattle.exchange.specs.declared.Sender.the-variants as S
 use Rattle.radio.specs.Radio.{allHaveOctets, firstSection, afterSending, arriving}
 use Rattle.radio.specs.declared.Radio.{Radio}
@@ -45,19 +45,14 @@ use Rattle.twoparty.specs.declared.Queue.the-variants as Q
 use Rattle.twoparty.specs.declared.TwoParty.{TwoParty}
 use Rattle.twoparty.specs.declared.TwoPartyResult.{TwoPartyResult}
 use Rattle.twoparty.specs.declared.TwoPartyResult.the-variants as T
-use Rattle.twoparty.specs.declared.Passing.{Passing}
-use Rattle.twoparty.specs.declared.Passing.the-variants as N
+use Rattle.twoparty.specs.declared.NextFrame.{NextFrame}
+use Rattle.twoparty.specs.declared.NextFrame.the-variants as N
 
 -- ---- the making
 
--- the direction in which a Provider of this role sends
-abbrev pub providing : Role → Selection
-providing Controlled = record { monitor = true; control = false }
-providing Controlling = record { monitor = false; control = true }
-
 -- a station of this role in a run
 abbrev pub stationOf : Settings → Role → FileTransferProcedure
-stationOf s role = record { role = role; selection = providing (s .role); ca = s .«common_address»; org = 0; sizes = s .sizes }
+stationOf s role = stationWith (s .sizes) (s .«common_address») (s .role) role
 
 -- what the Receiver's answer puts behind the rest of the queue: nothing, or one frame that is then all of it
 unfoldable pub asked : Queue → ReceiverAnswer → Queue
@@ -89,17 +84,17 @@ partyMade s file damage store = afterMaking s file damage store (providerMade (s
 -- ---- one frame
 
 -- the frame at an index of the Provider's reply, if there is one
-abbrev pub fromReply : FrameResult → Passing
+abbrev pub fromReply : FrameResult → NextFrame
 fromReply (F.Ok f) = N.Frame S.Provider f
 fromReply (F.Err e) = N.Nothing
 
-abbrev pub first : Provider → Receiver → List ℕ → Queue → Passing
+abbrev pub first : Provider → Receiver → List ℕ → Queue → NextFrame
 first p r file Q.Empty = N.Nothing
 first p r file Q.Receiver = N.Frame S.Receiver (awaited r)
 first p r file (Q.Provider reply i damaged) = fromReply (replyFrame p file reply i)
 
 -- the queue's first frame; 26 first
-unfoldable pub nextFrame : TwoParty → List ℕ → Passing
+unfoldable pub nextFrame : TwoParty → List ℕ → NextFrame
 nextFrame t file = unless (fileAgrees (t .provider) file) (N.Err E.RecordMismatch) (first (t .provider) (t .receiver) file (t .queue))
 
 -- a transfer and the store
@@ -114,9 +109,13 @@ still t store = record { party = t; store = store }
 abbrev pub headerBy : FileTransferProcedure → Frame → Header
 headerBy s f = headerOf (s .ca) (s .org) f
 
+-- whether the radio hits a reply: only a sending, and where damaged ones are left
+unfoldable pub isDamaged : Radio → Reply → Bool
+isDamaged r reply = isSection reply and ltb 0 (r .left)
+
 -- what the Provider's answer puts into the queue
 abbrev pub replied : Radio → ProviderAnswer → Queue
-replied r (P.Running reply) = Q.Provider reply 0 (ltb 0 (r .left))
+replied r (P.Running reply) = Q.Provider reply 0 (isDamaged r reply)
 replied r P.Complete = Q.Empty
 replied r (P.Deactivated scq) = Q.Empty
 replied r (P.FileRejected afq) = Q.Empty
@@ -158,23 +157,23 @@ toReceiver t file store reply i damaged (F.Ok f) =
 toReceiver t file store reply i damaged (F.Err e) = still t store
 
 -- the queue's first frame passes; an empty queue stays
-abbrev pub passed : TwoParty → List ℕ → List ℕ → List ℕ → Queue → Moved
-passed t file damage store Q.Empty = still t store
-passed t file damage store Q.Receiver = still (toProvider t file damage) store
-passed t file damage store (Q.Provider reply i damaged) = toReceiver t file store reply i damaged (replyFrame (t .provider) file reply i)
+abbrev pub movedBy : TwoParty → List ℕ → List ℕ → List ℕ → Queue → Moved
+movedBy t file damage store Q.Empty = still t store
+movedBy t file damage store Q.Receiver = still (toProvider t file damage) store
+movedBy t file damage store (Q.Provider reply i damaged) = toReceiver t file store reply i damaged (replyFrame (t .provider) file reply i)
 
 unfoldable pub advanced : TwoParty → List ℕ → List ℕ → List ℕ → Moved
-advanced t file damage store = passed t file damage store (t .queue)
+advanced t file damage store = movedBy t file damage store (t .queue)
 
-pub record Stepped : Type 0 where
+pub record PartyStep : Type 0 where
   pub result : TwoPartyResult
   pub store : List ℕ
 
-abbrev pub went : Moved → Stepped
+abbrev pub went : Moved → PartyStep
 went m = record { result = T.Ok (m .party); store = m .store }
 
 -- 26 first: a record that a making gives of this file, and one whose octets the store holds
-unfoldable pub stepped : TwoParty → List ℕ → List ℕ → List ℕ → Stepped
-stepped t file damage store =
+unfoldable pub partyStepped : TwoParty → List ℕ → List ℕ → List ℕ → PartyStep
+partyStepped t file damage store =
     unless (fileAgrees (t .provider) file and storeAgrees (t .receiver) store) (record { result = T.Err E.RecordMismatch; store = store })
     (went (advanced t file damage store))

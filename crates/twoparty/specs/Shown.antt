@@ -1,11 +1,10 @@
 -- What is shown of the frames on their way: the first of them, under the code's name of its sender.
 use mathlib.Core.List.{List, [], _∷_}
-use Rattle.exchange.specs.Exchange.{Side, byProvider, byReceiver}
-use Rattle.exchange.specs.Exchange as X
+use Rattle.exchange.specs.Exchange.{Side, byProvider, byReceiver, Passing}
 use Rattle.exchange.specs.declared.Sender.{Sender}
 use Rattle.exchange.specs.declared.Sender.the-variants as S
-use Rattle.twoparty.specs.declared.Passing.{Passing}
-use Rattle.twoparty.specs.declared.Passing.the-variants as N
+use Rattle.twoparty.specs.declared.NextFrame.{NextFrame}
+use Rattle.twoparty.specs.declared.NextFrame.the-variants as N
 
 -- the code's name of a side
 abbrev pub nameOf : Side → Sender
@@ -13,10 +12,10 @@ nameOf byProvider = S.Provider
 nameOf byReceiver = S.Receiver
 
 -- sender and frame of one that is on its way
-abbrev pub shownAs : X.Passing → Passing
+abbrev pub shownAs : Passing → NextFrame
 shownAs x = N.Frame (nameOf (x .sender)) (x .packet .frame)
 
 -- the first of a queue; nothing of an empty one
-abbrev pub firstOf : List X.Passing → Passing
+abbrev pub firstOf : List Passing → NextFrame
 firstOf [] = N.Nothing
 firstOf (x ∷ queue) = shownAs x

@@ -15,7 +15,8 @@ use receive::ReceiverAnswer;
 use receive::ReceiverResult;
 use receive::ReceiverStep;
 ghost use mathlib.Core.Path.{_≡_};
-ghost use Rattle.twoparty.specs.Party.{providing, stationOf, asked, startedParty, withReceiver, withProvider, partyMade};
+ghost use Rattle.exchange.specs.Stations.{providing};
+ghost use Rattle.twoparty.specs.Party.{stationOf, asked, startedParty, withReceiver, withProvider, partyMade};
 
 // The direction in which a Provider of this role sends.
 fn providing(role: Role) -> Selection

@@ -34,6 +34,7 @@ pub enum Queue {
     Provider {
         reply: Reply,
         next: usize,
+        // Whether the radio hits it: of a section's segments and close alone.
         damaged: bool,
     },
 }
@@ -52,7 +53,7 @@ pub enum TwoPartyResult {
 }
 
 // The frame that passes next, and whose it is.
-pub enum Passing {
+pub enum NextFrame {
     Nothing,
     Frame { sender: Sender, frame: Frame },
     Err(FtError),

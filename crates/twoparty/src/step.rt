@@ -1,6 +1,6 @@
 // One frame passes: the queue's first is handed, under a header of its sender's, to the other machine,
 // and what that sends joins the queue.
-use crate::Passing;
+use crate::NextFrame;
 use crate::Queue;
 use crate::TwoParty;
 use crate::TwoPartyResult;
@@ -33,7 +33,7 @@ ghost use Rattle.provide.specs.declared.FrameResult.the-variants as F;
 ghost use Rattle.receive.specs.Answers.{receive};
 ghost use Rattle.exchange.specs.Damaging.{raised};
 ghost use Rattle.exchange.specs.Exchange.{isSection, isSending};
-ghost use Rattle.twoparty.specs.Party.{afterAnswer, fromReply, first, nextFrame, headerBy, replied, afterProvider, toProvider, heard, toReceiver, advanced, stepped};
+ghost use Rattle.twoparty.specs.Party.{afterAnswer, fromReply, first, nextFrame, headerBy, isDamaged, replied, afterProvider, toProvider, heard, toReceiver, advanced, partyStepped};
 
 // The header of a station's own frame.
 fn header_by(station: FileTransferProcedure, frame: Frame) -> Header
@@ -68,6 +68,16 @@ fn is_sending(answer: ProviderAnswer) -> bool
     }
 }
 
+// Whether the radio hits a reply: only a sending, and where damaged ones are left.
+fn is_damaged(radio: Radio, reply: Reply) -> bool
+    ensures { λ r. ⌜ r ≡ isDamaged radio reply ⌝ }
+{
+    if is_section(reply) {
+        return radio.is_damaging();
+    }
+    false
+}
+
 // What the Provider's answer puts into the queue.
 fn replied(radio: Radio, answer: ProviderAnswer) -> Queue
     ensures { λ r. ⌜ r ≡ replied radio answer ⌝ }
@@ -76,7 +86,7 @@ fn replied(radio: Radio, answer: ProviderAnswer) -> Queue
         ProviderAnswer::Running(reply) => Queue::Provider {
             reply,
             next: 0,
-            damaged: radio.is_damaging(),
+            damaged: is_damaged(radio, reply),
         },
         ProviderAnswer::Complete => Queue::Empty,
         ProviderAnswer::Deactivated { .. } => Queue::Empty,
@@ -87,15 +97,15 @@ fn replied(radio: Radio, answer: ProviderAnswer) -> Queue
 }
 
 // A frame of the Provider's that was found at its index.
-fn from_reply(found: FrameResult) -> Passing
+fn from_reply(found: FrameResult) -> NextFrame
     ensures { λ r. ⌜ r ≡ fromReply found ⌝ }
 {
     match found {
-        FrameResult::Ok(frame) => Passing::Frame {
+        FrameResult::Ok(frame) => NextFrame::Frame {
             sender: Sender::Provider,
             frame,
         },
-        FrameResult::Err(_) => Passing::Nothing,
+        FrameResult::Err(_) => NextFrame::Nothing,
     }
 }
 
@@ -142,16 +152,16 @@ fn after_answer(radio: Radio, damage: &[u8], answer: ProviderAnswer) -> Radio
 
 impl TwoParty {
     // The queue's first frame.
-    fn first(self, file: &[u8]) -> Passing
+    fn first(self, file: &[u8]) -> NextFrame
         ensures { λ r. ⌜ r ≡ first (self .provider) (self .receiver) (now (file .entry)) (self .queue) ⌝ }
     {
         let provider = self.provider;
         let receiver = self.receiver;
         let queue = self.queue;
         match queue {
-            Queue::Empty => return Passing::Nothing,
+            Queue::Empty => return NextFrame::Nothing,
             Queue::Receiver => {
-                return Passing::Frame {
+                return NextFrame::Frame {
                     sender: Sender::Receiver,
                     frame: receiver.awaited(),
                 };
@@ -163,14 +173,14 @@ impl TwoParty {
     }
 
     // The frame that passes next; 26 where the Provider's record and the file disagree.
-    pub fn next_frame(self, file: &[u8]) -> Passing
+    pub fn next_frame(self, file: &[u8]) -> NextFrame
         ensures { λ r. ⌜ r ≡ nextFrame self (now (file .entry)) ⌝ }
     {
         let provider = self.provider;
         if provider.agrees(file) {
             return self.first(file);
         }
-        Passing::Err(FtError::RecordMismatch)
+        NextFrame::Err(FtError::RecordMismatch)
     }
 
     // The Provider has answered.
@@ -292,8 +302,8 @@ impl TwoParty {
     // One frame passes: 26 first, where a record disagrees with its lent buffer; with no frame left
     // nothing changes.
     pub fn step(self, file: &[u8], damage: &[u8], store: &mut [u8]) -> TwoPartyResult
-        ensures { λ r. ⌜ (r ≡ stepped self (now (file .entry)) (now (damage .entry)) (now (store .entry)) .result)
-            × (now (store .exit) ≡ stepped self (now (file .entry)) (now (damage .entry)) (now (store .entry)) .store) ⌝ }
+        ensures { λ r. ⌜ (r ≡ partyStepped self (now (file .entry)) (now (damage .entry)) (now (store .entry)) .result)
+            × (now (store .exit) ≡ partyStepped self (now (file .entry)) (now (damage .entry)) (now (store .entry)) .store) ⌝ }
     {
         let provider = self.provider;
         let receiver = self.receiver;

@@ -15,7 +15,7 @@ on-ack-spec =
     (λ c κs. search needs)
     (λ c κs. search needs)
     (λ c κs. search needs)
-    (λ c. simp (whens, c .before .before .match .keys1, ← (c .reply .ensures), ← (c .before .after .ensures)))
+    (λ c. simp (whens, c .before .before .match .keys1, ← (c .reply .ensures), ← (c .before .after-section .ensures)))
     (λ c. simp (whens, c .before .match .keys2, ← (c .reply2 .ensures)))
     (λ c. simp (whens, c .before .match .keys3, ← (c .end .ensures)))
     (λ c.

@@ -2,7 +2,7 @@ use mathlib.Core.Path.{sym, _∙_}
 use borrow.Author.Needs.{needs}
 use native.Mathlib.Omega.{arith}
 use Rattle.laws.proofs.Decide.{whens, yes, nay}
-use Rattle.script.specs.Reader.{after}
+use Rattle.script.specs.Reader.{spacedNumber}
 use Rattle.script.proofs.ReaderLaws.{stands, after-here}
 use Rattle.script.proofs.read.after_at.Statement.{statement}
 use Rattle.script.proofs.read.after_at.Tie as tie
@@ -13,7 +13,7 @@ returns c =
     c .number-at .ensures ∙ sym (after-here (a .text .now) (a .at) _ (yes (c .before .before .is-at .ensures) (c .before .if1 .taken)))
 
 pub after-at-spec : {M : Type 1} → statement M
-unfolding after
+unfolding spacedNumber
 after-at-spec =
     tie.close
     (tie.spec

@@ -1,7 +1,7 @@
 use mathlib.Core.Path.{sym}
 use borrow.Author.Needs.{needs}
 use native.Mathlib.Omega.{arith}
-use Rattle.script.specs.Reader.{counted}
+use Rattle.script.specs.Reader.{countedOctets}
 use Rattle.script.proofs.NumberLaws.{after-found}
 use Rattle.script.proofs.read.counted_at.Statement.{statement}
 use Rattle.script.proofs.read.counted_at.Tie as tie
@@ -14,7 +14,7 @@ room c κs =
     omega arith
 
 pub counted-at-spec : {M : Type 1} → statement M
-unfolding counted
+unfolding countedOctets
 counted-at-spec =
     tie.close
     (tie.spec

@@ -1,11 +1,11 @@
 use borrow.Author.Needs.{needs}
 use Rattle.laws.proofs.Decide.{whens, yes, nay}
-use Rattle.twoparty.specs.Party.{stepped}
+use Rattle.twoparty.specs.Party.{partyStepped}
 use Rattle.twoparty.proofs.TwoParty.step.Statement.{statement}
 use Rattle.twoparty.proofs.TwoParty.step.Tie as tie
 
 pub step-spec : {M : Type 1} → statement M
-unfolding stepped
+unfolding partyStepped
 step-spec =
     tie.close
     (tie.spec

@@ -13,7 +13,7 @@ replied-spec =
     (λ c. search needs)
     (λ c. search needs)
     (λ c. search needs)
-    (λ c. simp (c .before .before .answer .given .1, ← (c .is-damaging .ensures)))
+    (λ c. simp (c .before .before .answer .given .1, ← (c .is-damaged .ensures)))
     (λ c. search needs)
     (λ c. search needs)
     (λ c. search needs)

@@ -13,7 +13,7 @@ use Rattle.asdu.specs.declared.Afq.{Afq}
 use Rattle.frame.specs.declared.Frame.{Frame}
 use Rattle.frame.specs.Frames.{typeOf}
 use Rattle.provide.specs.Replies.{bare, segmentPacket}
-use Rattle.provide.specs.Requests.{after, onSc, onAck}
+use Rattle.provide.specs.Requests.{afterSection, onSc, onAck}
 use Rattle.provide.specs.declared.Provider.{Provider}
 use Rattle.provide.specs.declared.ProviderStep.{ProviderStep}
 use Rattle.provide.specs.declared.Reply.{Reply}
@@ -47,8 +47,8 @@ unfolding when
 no-section true x y none rest = none
 no-section false x y none rest = rest
 
-ready-or-close : (p : Provider) (nos : Nos) → isSection (after p nos) ≡ false
-unfolding after
+ready-or-close : (p : Provider) (nos : Nos) → isSection (afterSection p nos) ≡ false
+unfolding afterSection
 ready-or-close p nos = no-section _ _ _ refl refl
 
 module _ (p : Provider) (nos : Nos) where

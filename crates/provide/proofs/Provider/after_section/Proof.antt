@@ -1,14 +1,14 @@
 use Rattle.laws.proofs.Decide.{whens}
 use borrow.Author.Needs.{needs}
 use borrow.Author.Tests.{lt-ltb, le-ltb}
-use Rattle.provide.specs.Requests.{after}
+use Rattle.provide.specs.Requests.{afterSection}
 use Rattle.provide.proofs.SectionLaws.{few-sections}
-use Rattle.provide.proofs.Provider.after.Statement.{statement}
-use Rattle.provide.proofs.Provider.after.Tie as tie
+use Rattle.provide.proofs.Provider.after_section.Statement.{statement}
+use Rattle.provide.proofs.Provider.after_section.Tie as tie
 
-pub after-spec : {M : Type 1} → statement M
-unfolding after
-after-spec =
+pub after-section-spec : {M : Type 1} → statement M
+unfolding afterSection
+after-section-spec =
     tie.close
     (tie.spec
     (λ c. search needs)
