@@ -65,8 +65,11 @@ unserved p = unservedBy (p .role) (p .selection)
 -- steps 5 to 7 of a frame: 4; the direction, the other role sending; receiver-side frames are requested, others answered
 unfoldable pub admitFrame : FileTransferProcedure → Header → Frame → List ℕ → Reaction
 admitFrame p h f beside =
+    -- step 5
     unless (frameAgrees (p .sizes) h f beside) (Err E.ValueOutOfRange)
+    -- step 6
     (unless (serves p (otherRole (p .role)) (receiverSide f)) (unserved p)
+    -- step 7
     (when (receiverSide f) Requested
     Answered))
 
@@ -80,14 +83,19 @@ abbrev pub admitKnown : FileTransferProcedure → Header → UnknownField → Re
 admitKnown p h (First which) received beside = unspecified (p .role) which
 admitKnown p h Nothing received beside = admitReceived p h received beside
 
--- 26, 3, then steps 1 to 7 in their order
+-- document 01's order, step by step
 unfoldable pub onAsdu : FileTransferProcedure → Header → UnknownField → Received → List ℕ → Reaction
 onAsdu p h unknown received beside =
+    -- before the steps: 26, then 3
     unless (settled p) (Err E.RecordMismatch)
     (unless (leb (h .«common_address») (maxCommonAddress (p .sizes))) (Err E.AddressOutOfRange)
+    -- step 1
     (unless (isFileType (h .«type_id»)) Other
+    -- step 2
     (when (isMirror h) (mirrored p h)
+    -- step 3
     (when (eqb (h .«common_address») (maxCommonAddress (p .sizes))) (unspecified (p .role) CommonAddress)
+    -- step 4, and in it steps 5 to 7
     (admitKnown p h unknown received beside)))))
 
 -- a frame that does not answer the one sent is 23

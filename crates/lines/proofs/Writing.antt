@@ -12,7 +12,7 @@ use borrow.Author.Tests.{leb-true, leb-false}
 use Rattle.store.specs.Store.{written}
 use Rattle.script.specs.Decimal.{decimal}
 use Rattle.script.specs.Answers.{over}
-use Rattle.lines.specs.LineText.{Put}
+use Rattle.lines.specs.Putting.{Put}
 use Rattle.script.proofs.Decimals.{either, decimal-one, decimal-more}
 
 module _ (xs : List ℕ) (a : ℕ) where

@@ -8,7 +8,8 @@ ghost use Prim.Native.Nat.{_+_, _≤_, _<_};
 ghost use lib.ListN.{length};
 ghost use Rattle.exchange.specs.Lines.{sideOf, namedSection, qualifier, statedSum};
 ghost use Rattle.script.specs.Decimal.{decimal};
-ghost use Rattle.lines.specs.LineText.{letterOf, fieldsText, lineText, Put};
+ghost use Rattle.lines.specs.LineText.{letterOf, fieldsText, lineText};
+ghost use Rattle.lines.specs.Putting.{Put};
 ghost use Rattle.script.specs.Answers.{over};
 
 // The sender's letter.

@@ -164,7 +164,7 @@ module _ (s : Settings) (file damage store : List ℕ) (a : Accepted s file dama
       ap (λ (r : Ran). r .result) (accepted-run s file damage store a budget)
       ∙ ending-spent (exchangeOf s file damage store budget) budget (exchangeOf s file damage store budget .queue) refl (B.spent m budget h) (B.spent-frames m budget h)
 
-  -- and after any number of frames, a section's sending that begins meets that section's next noise: the k-th naming damages the k-th sending
+  -- and after any number of frames, sending number k of a section meets noise number k of that section: the k-th naming damages the k-th sending
   pub run-in-order : InOrder (transfer s file damage store a) (exchangeOf s file damage store budget)
   unfolding transfer
   run-in-order = in-order (transfer s file damage store a) budget

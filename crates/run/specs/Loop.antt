@@ -1,4 +1,4 @@
--- The run as it goes: frame after frame of a transfer's record, until none is left or the budget is spent.
+-- The run as it goes: frame after frame of a transfer's record, until none is left or the budget is spent. Only the run's own functions cite it; what a run answers is in Run.antt.
 use Prim.Native.Nat.{ℕ, zero, suc, _+_}
 use mathlib.Core.Bool.{Bool, true, false}
 use mathlib.Core.List.{List}

@@ -15,7 +15,8 @@ use Rattle.script.specs.declared.Outline.{Outline}
 use Rattle.script.specs.declared.ScriptResult.the-variants.{Ok, Err}
 use Rattle.script.specs.Script.{Script}
 use Rattle.script.specs.Reader.{nothing, found, ScriptSettings, settings, countedOctets, ends, scriptBody, scriptOf}
-use Rattle.script.specs.Answers.{answerOf, over, Filled, fileAfter, damageAfter}
+use Rattle.script.specs.Answers.{answerOf, over, fileAfter, damageAfter}
+use Rattle.script.specs.Places.{Filled}
 
 module _ (t : List ℕ) where
   pub no-settings : nothing ≡ settings t → scriptOf t ≡ none

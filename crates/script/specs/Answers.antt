@@ -1,40 +1,12 @@
--- What reading a script answers, and the places in a text by which the code says what it found.
-use Prim.Native.Nat.{ℕ, _≤_}
-use mathlib.Core.Path.{_≡_}
+-- What reading a script answers, and what it leaves in the buffers.
+use Prim.Native.Nat.{ℕ}
 use mathlib.Core.Option.{Option, none, some}
 use mathlib.Core.List.{List, _++_}
-use lib.ListN.{length, take, drop}
+use lib.ListN.{length, drop}
 use Rattle.asdu.specs.declared.FtError.the-variants.{ScriptMisshapen}
 use Rattle.script.specs.Script.{Script}
-use Rattle.script.specs.Reader.{Found, nothing, found, ScriptSettings}
-use Rattle.script.specs.declared.read.Reading.{Reading}
-use Rattle.script.specs.declared.read.Reading.the-variants as R
-use Rattle.script.specs.declared.read.SettingsRead.{SettingsRead}
-use Rattle.script.specs.declared.read.SettingsRead.the-variants as S
 use Rattle.script.specs.declared.ScriptResult.{ScriptResult}
 use Rattle.script.specs.declared.ScriptResult.the-variants.{Ok, Err}
-
--- a number found, and the text after its place
-abbrev pub foundAt : List ℕ → Reading → Found ℕ
-foundAt text (R.Number value next) = found value (drop next text)
-foundAt text R.Nothing = nothing
-
--- so many octets found, in front of a buffer
-abbrev pub octetsAt : List ℕ → List ℕ → Reading → Found (List ℕ)
-octetsAt text out (R.Number count next) = found (take count out) (drop next text)
-octetsAt text out R.Nothing = nothing
-
--- and the buffer behind them as it was
-abbrev pub Kept : List ℕ → List ℕ → Reading → Type 0
-Kept was is (R.Number count next) = (count ≤ length is) × (drop count is ≡ drop count was)
-Kept was is R.Nothing = Unit {0}
-
--- the settings found
-abbrev pub settingsAt : List ℕ → SettingsRead → Found ScriptSettings
-settingsAt text (S.Are ioa nof next) = found (record { object = ioa; nof = nof .value }) (drop next text)
-settingsAt text S.Nothing = nothing
-
--- ---- what the whole text answers
 
 -- a script's numbers and lengths, or 11
 unfoldable pub answerOf : Option Script → ScriptResult
@@ -45,11 +17,6 @@ answerOf none = Err ScriptMisshapen
 -- octets over the front of a buffer
 abbrev pub over : List ℕ → List ℕ → List ℕ
 over octets there = octets ++ drop (length octets) there
-
--- both buffers filled, where the text is a script
-abbrev pub Filled : Option Script → List ℕ → List ℕ → List ℕ → List ℕ → Type 0
-Filled (some s) file₀ file damage₀ damage = (file ≡ over (s .file) file₀) × (damage ≡ over (s .damage) damage₀)
-Filled none file₀ file damage₀ damage = Unit {0}
 
 -- the buffer of a script's file, and of its damage; a refusal leaves both as they came in
 unfoldable pub fileAfter : Option Script → List ℕ → List ℕ

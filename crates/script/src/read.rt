@@ -9,7 +9,8 @@ ghost use mathlib.Core.Bool.{true};
 ghost use Prim.Native.Nat.{_-_, _≤_, _<_};
 ghost use lib.ListN.{length, drop, getD};
 ghost use Rattle.script.specs.Reader.{begins, beginsDigit, more, number, spacedNumber, numbers, countedOctets, settings, ends, scriptOf};
-ghost use Rattle.script.specs.Answers.{foundAt, octetsAt, Kept, settingsAt, answerOf, Filled, fileAfter, damageAfter};
+ghost use Rattle.script.specs.Answers.{answerOf, fileAfter, damageAfter};
+ghost use Rattle.script.specs.Places.{foundAt, octetsAt, Kept, settingsAt, Filled};
 
 // The largest object address that three octets hold, and the largest name of a file.
 const MAX_OBJECT: u32 = 0xFF_FFFF;
