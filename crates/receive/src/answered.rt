@@ -4,6 +4,7 @@ use crate::ReceiverAnswer;
 use crate::ReceiverStep;
 use crate::Sent;
 use asdu::Afq;
+use asdu::Cause;
 use asdu::Chs;
 use asdu::Frq;
 use asdu::FtError;
@@ -24,8 +25,63 @@ ghost use lib.Dec.{eqb};
 ghost use lib.ListN.{length, take, drop};
 ghost use Rattle.laws.specs.When.{_or_};
 ghost use Rattle.checksum.specs.Checksum.{checksum};
-ghost use Rattle.receive.specs.Record.{keptOctets, stagedOctets, stepped};
-ghost use Rattle.receive.specs.Answers.{onFileReady, onSectionReady, onSectionClose, closing, onFileClose, onClose, onSegment, onAnswered, onReceived, receiveAdmitted, receive};
+ghost use Rattle.ft.specs.Admission.{onAnswer};
+ghost use Rattle.receive.specs.Record.{keptOctets, stagedOctets, awaited, stepped};
+ghost use Rattle.receive.specs.Answers.{onFileReady, onSectionReady, onSectionClose, closing, onFileClose, onClose, onSegment, receive};
+ghost use Rattle.receive.specs.Told.{toldByFrame, toldBy, toldOf, onTold};
+
+// What a received frame tells a Receiver: no more than its step goes by, so that the step holds neither
+// the frame nor the reaction.
+enum Told {
+    Nothing,
+    FileReady { lof: Lof, frq: Frq },
+    SectionReady { nos: Nos, srq: Srq },
+    Close { nos: Nos, lsq: Lsq, chs: Chs },
+    // Its octets stand beside it.
+    Segment,
+    Refused { cause: Cause, mirror: bool },
+    Err(FtError),
+}
+
+// What a frame tells that answers the one sent.
+fn told_by_frame(frame: Frame) -> Told
+    ensures { λ r. ⌜ r ≡ toldByFrame frame ⌝ }
+{
+    match frame {
+        Frame::FileReady { lof, frq, .. } => Told::FileReady { lof, frq },
+        Frame::SectionReady { nos, srq, .. } => Told::SectionReady { nos, srq },
+        Frame::Sc { .. } => Told::Nothing,
+        Frame::LastSection { nos, lsq, chs, .. } => Told::Close { nos, lsq, chs },
+        Frame::Ack { .. } => Told::Nothing,
+        Frame::Segment { .. } => Told::Segment,
+        Frame::Directory { .. } => Told::Nothing,
+        Frame::QueryLog { .. } => Told::Nothing,
+    }
+}
+
+// An answer is a frame: what is undecodable is refused before.
+fn told_by(received: Received) -> Told
+    ensures { λ r. ⌜ r ≡ toldBy received ⌝ }
+{
+    match received {
+        Received::Frame(frame) => told_by_frame(frame),
+        Received::Undecodable => Told::Nothing,
+    }
+}
+
+// By what admission makes of it.
+fn told_of(received: Received, reaction: Reaction) -> Told
+    ensures { λ r. ⌜ r ≡ toldOf received reaction ⌝ }
+{
+    match reaction {
+        Reaction::Requested => Told::Nothing,
+        Reaction::Answered => told_by(received),
+        Reaction::Refused { cause, mirror } => Told::Refused { cause, mirror },
+        Reaction::Discard(_) => Told::Nothing,
+        Reaction::Other => Told::Nothing,
+        Reaction::Err(error) => Told::Err(error),
+    }
+}
 
 // Whether the frame closes a section (7.2.6.31).
 fn closes_section(lsq: Lsq) -> bool
@@ -176,54 +232,33 @@ impl Receiver {
         self.refuses(FtError::StoreFull)
     }
 
-    // A frame that answers the one sent, of a record that is not done and agrees with its store.
-    fn on_answered(self, store: &mut [u8], payload: &[u8], frame: Frame) -> ReceiverStep
-        requires { ⌜ self .kept + self .staged ≤ length (now store) ⌝ }
-        ensures { λ r. ⌜ (r ≡ onAnswered self (now (store .entry)) (now (payload .entry)) frame .step) × (now (store .exit) ≡ onAnswered self (now (store .entry)) (now (payload .entry)) frame .store) ⌝ }
+    // What a received frame tells, by what admission makes of it as the answer to the one sent.
+    fn told(self, header: Header, unknown: UnknownField, received: Received, beside: &[u8]) -> Told
+        ensures { λ r. ⌜ r ≡ toldOf received (onAnswer (self .procedure) header unknown received (now (beside .entry)) (awaited self)) ⌝ }
     {
-        match frame {
-            Frame::FileReady { lof, frq, .. } => return self.on_file_ready(lof, frq),
-            Frame::SectionReady { nos, srq, .. } => return self.on_section_ready(nos, srq),
-            Frame::Sc { .. } => return self.runs(),
-            Frame::LastSection { nos, lsq, chs, .. } => return self.on_close(store, nos, lsq, chs),
-            Frame::Ack { .. } => return self.runs(),
-            Frame::Segment { .. } => return self.on_segment(store, payload),
-            Frame::Directory { .. } => return self.runs(),
-            Frame::QueryLog { .. } => return self.runs(),
-        }
+        let procedure = self.procedure;
+        let sent = self.awaited();
+        told_of(
+            received,
+            procedure.on_answer(header, unknown, received, beside, sent),
+        )
     }
 
-    // An answer is a frame: what is undecodable is refused before.
-    fn on_received(self, store: &mut [u8], payload: &[u8], received: Received) -> ReceiverStep
+    // A step by what the frame tells, of a record that is not done and agrees with its store.
+    fn on_told(self, store: &mut [u8], payload: &[u8], told: Told) -> ReceiverStep
         requires { ⌜ self .kept + self .staged ≤ length (now store) ⌝ }
-        ensures { λ r. ⌜ (r ≡ onReceived self (now (store .entry)) (now (payload .entry)) received .step) × (now (store .exit) ≡ onReceived self (now (store .entry)) (now (payload .entry)) received .store) ⌝ }
+        ensures { λ r. ⌜ (r ≡ onTold self (now (store .entry)) (now (payload .entry)) told .step) × (now (store .exit) ≡ onTold self (now (store .entry)) (now (payload .entry)) told .store) ⌝ }
     {
-        match received {
-            Received::Frame(frame) => return self.on_answered(store, payload, frame),
-            Received::Undecodable => return self.runs(),
-        }
-    }
-
-    // By what admission makes of the frame.
-    fn on_admitted(
-        self,
-        store: &mut [u8],
-        payload: &[u8],
-        received: Received,
-        reaction: Reaction,
-    ) -> ReceiverStep
-        requires { ⌜ self .kept + self .staged ≤ length (now store) ⌝ }
-        ensures { λ r. ⌜ (r ≡ receiveAdmitted self (now (store .entry)) (now (payload .entry)) received reaction .step) × (now (store .exit) ≡ receiveAdmitted self (now (store .entry)) (now (payload .entry)) received reaction .store) ⌝ }
-    {
-        match reaction {
-            Reaction::Requested => return self.runs(),
-            Reaction::Answered => return self.on_received(store, payload, received),
-            Reaction::Refused { cause, mirror } => {
+        match told {
+            Told::Nothing => return self.runs(),
+            Told::FileReady { lof, frq } => return self.on_file_ready(lof, frq),
+            Told::SectionReady { nos, srq } => return self.on_section_ready(nos, srq),
+            Told::Close { nos, lsq, chs } => return self.on_close(store, nos, lsq, chs),
+            Told::Segment => return self.on_segment(store, payload),
+            Told::Refused { cause, mirror } => {
                 return self.ends(ReceiverAnswer::Refused { cause, mirror });
             }
-            Reaction::Discard(_) => return self.runs(),
-            Reaction::Other => return self.runs(),
-            Reaction::Err(error) => return self.refuses(error),
+            Told::Err(error) => return self.refuses(error),
         }
     }
 
@@ -240,14 +275,12 @@ impl Receiver {
     ) -> ReceiverStep
         ensures { λ r. ⌜ (r ≡ receive self (now (store .entry)) header unknown received (now (beside .entry)) .step) × (now (store .exit) ≡ receive self (now (store .entry)) header unknown received (now (beside .entry)) .store) ⌝ }
     {
-        let procedure = self.procedure;
         if self.agrees(store) {
             if self.done {
                 return self.runs();
             }
-            let sent = self.awaited();
-            let reaction = procedure.on_answer(header, unknown, received, beside, sent);
-            return self.on_admitted(store, beside, received, reaction);
+            let told = self.told(header, unknown, received, beside);
+            return self.on_told(store, beside, told);
         }
         self.refuses(FtError::RecordMismatch)
     }

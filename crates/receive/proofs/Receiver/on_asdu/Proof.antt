@@ -2,12 +2,13 @@ use Rattle.laws.proofs.Decide.{whens, yes, nay}
 use borrow.Author.Needs.{needs}
 use Rattle.receive.specs.Answers.{receive}
 use Rattle.receive.proofs.Starting.{agrees-held}
+use Rattle.receive.proofs.Telling.{told-is}
 use Rattle.receive.proofs.Receiver.on_asdu.Statement.{statement}
 use Rattle.receive.proofs.Receiver.on_asdu.Tie as tie
 
-on-admitted-requires : tie.Need-on-admitted-requires
-on-admitted-requires c κs =
-    let i = c .before .before .before .before in
+on-told-requires : tie.Need-on-told-requires
+on-told-requires c κs =
+    let i = c .before .before .before in
     agrees-held _ _ (yes (i .before .agrees .ensures) (i .if1 .taken))
 
 returns : tie.Need-returns
@@ -22,10 +23,10 @@ unfolding receive
 returns-2 c =
     let o = c .before .before in
     let a = o .before .before in
-    let d = a .before .before in
+    let d = a .before in
     let held = yes (d .before .before .agrees .ensures) (d .before .if1 .taken) in (
-      simp (whens, held, d .if2 .left, ← (a .on-answer .ensures), ← (a .before .awaited .ensures)) (o .on-admitted .ensures .0),
-      simp (whens, held, d .if2 .left, ← (a .on-answer .ensures), ← (a .before .awaited .ensures)) (o .on-admitted .ensures .1),
+      simp (whens, held, d .if2 .left, told-is, ← (a .told .ensures)) (o .on-told .ensures .0),
+      simp (whens, held, d .if2 .left, told-is, ← (a .told .ensures)) (o .on-told .ensures .1),
     )
 
 returns-3 : tie.Need-returns-3
@@ -44,8 +45,7 @@ on-asdu-spec =
     (λ c. search needs)
     returns
     (λ c κs. search needs)
-    (λ c κs. search needs)
-    on-admitted-requires
+    on-told-requires
     (λ c. search needs)
     returns-2
     (λ c κs. search needs)
