@@ -1,0 +1,255 @@
+-- Whatever is handed to a Receiver: it completes, and so sends AFQ 1, only on a file close that states the sum of what it holds.
+use Prim.Native.Nat.{ℕ, _≤_}
+use mathlib.Core.Path.{_≡_, refl, sym, subst}
+use mathlib.Core.Logic.{_⊎_, inl, inr}
+use mathlib.Core.Bool.{Bool, true, false}
+use mathlib.Core.List.{List}
+use native.Mathlib.Omega.{arith}
+use lib.Dec.{eqb}
+use lib.ListN.{length}
+use borrow.Author.Tests.{eqb-true, eq-eqb}
+use Rattle.laws.specs.When.{when, _and_}
+use Rattle.asdu.proofs.Range.{both}
+use Rattle.asdu.specs.declared.Nof.{Nof}
+use Rattle.asdu.specs.declared.Nos.{Nos}
+use Rattle.asdu.specs.declared.Lof.{Lof}
+use Rattle.asdu.specs.declared.Frq.{Frq}
+use Rattle.asdu.specs.declared.Srq.{Srq}
+use Rattle.asdu.specs.declared.Lsq.{Lsq}
+use Rattle.asdu.specs.declared.Chs.{Chs}
+use Rattle.asdu.specs.declared.FtError.the-variants as E
+use Rattle.frame.specs.declared.Frame.{Frame}
+use Rattle.frame.specs.declared.Frame.the-variants as F
+use Rattle.frame.specs.Answers.{namesAgree, answersTo}
+use Rattle.checksum.specs.Checksum.{checksum}
+use Rattle.ft.specs.Admission.{onAsdu, matched, answering, onAnswer}
+use Rattle.ft.specs.declared.Received.{Received}
+use Rattle.ft.specs.declared.Received.the-variants as D
+use Rattle.ft.specs.declared.Reaction.{Reaction}
+use Rattle.ft.specs.declared.Reaction.the-variants as A
+use Rattle.receive.specs.Record.{storeAgrees, keptOctets, frameOf, awaited, stepped}
+use Rattle.receive.specs.Answers.{Outcome, closing, leaving, onFileReady, onSectionReady, onSectionClose, onFileClose, onClose, onSegment, onAnswered, onReceived, receiveAdmitted, receive, sends, toSend}
+use Rattle.receive.specs.declared.Sent.{Sent}
+use Rattle.receive.specs.declared.Sent.the-variants as S
+use Rattle.receive.specs.declared.Receiver.{Receiver}
+use Rattle.receive.specs.declared.ReceiverStep.{ReceiverStep}
+use Rattle.receive.specs.declared.ReceiverAnswer.{ReceiverAnswer}
+use Rattle.receive.specs.declared.ReceiverAnswer.the-variants as R
+use Rattle.receive.proofs.Starting.{agrees-held}
+use Rattle.exchange.specs.Lines.{statedSum}
+use Rattle.history.specs.Calls.{acceptsFile, closesFile, sameFile, Input, receives, framesByReceiver, Among, ReceiverCompletesOnly, ReceiverAcceptsOnly}
+use Rattle.history.proofs.Choosing.{if-so, either, both-so, never}
+
+-- ---- what a step sends that does not complete
+
+-- no AFQ 1
+abbrev pub NoAcceptance : List Frame → Type 0
+NoAcceptance fs = (object : ℕ) (name : Nof) (f : Frame) → Among f fs → acceptsFile object name f ≡ true → ⊥
+
+-- a step that sends nothing, and one whose frame is no AFQ 1
+sends-nothing : (t : ReceiverStep) → sends (t .answer) ≡ false → NoAcceptance (framesByReceiver t)
+unfolding toSend when
+sends-nothing t quiet object name f = rw quiet (λ m e. m)
+
+sends-other : (t : ReceiverStep) → sends (t .answer) ≡ true
+    → ((object : ℕ) (name : Nof) → acceptsFile object name (awaited (t .receiver)) ≡ false) → NoAcceptance (framesByReceiver t)
+unfolding toSend when
+sends-other t says other object name f = rw says by-place
+  where
+    by-place : (f ≡ awaited (t .receiver)) ⊎ ⊥ → acceptsFile object name f ≡ true → ⊥
+    by-place (inl is) e = never _ (rw is (other object name)) e
+    by-place (inr m) e = m
+
+-- a request is none, and neither is an acknowledgement of another action
+sends-request : (t : ReceiverStep) (action : ℕ) (nos : Nos) → sends (t .answer) ≡ true → t .receiver .sent ≡ S.Request action nos
+    → NoAcceptance (framesByReceiver t)
+unfolding awaited
+sends-request t action nos says is = sends-other t says (λ object name. rw is)
+
+sends-acknowledgement : (t : ReceiverStep) (action : ℕ) (nos : Nos) → sends (t .answer) ≡ true → t .receiver .sent ≡ S.Acknowledgement action nos
+    → eqb action 1 ≡ false → NoAcceptance (framesByReceiver t)
+unfolding awaited when
+sends-acknowledgement t action nos says is differs = sends-other t says (λ object name. rw is (rw differs))
+
+-- ---- a frame that answers what was sent is for the same file
+
+answers-file : (r : Receiver) (s : Sent) (ioa : ℕ) (nof : Nof) (nos : Nos) (lsq : Lsq) (chs : Chs)
+    → answersTo (frameOf (r .ioa) (r .nof) s) (F.LastSection ioa nof nos lsq chs) ≡ true → sameFile (r .ioa) (r .nof) ioa nof ≡ true
+unfolding answersTo namesAgree
+answers-file r s ioa nof nos lsq chs e = by-sent s e
+  where
+    same : (b d : Bool) → (eqb (r .ioa) ioa and b and eqb (r .nof .value) (nof .value) and d) ≡ true → sameFile (r .ioa) (r .nof) ioa nof ≡ true
+    same b d h =
+        let o = both (eqb (r .ioa) ioa) (b and eqb (r .nof .value) (nof .value) and d) h in
+        let t = both b (eqb (r .nof .value) (nof .value) and d) (o .1) in
+        let n = both (eqb (r .nof .value) (nof .value)) d (t .1) in
+        both-so (eqb ioa (r .ioa)) (eqb (nof .value) (r .nof .value)) (eq-eqb ioa (r .ioa) (sym (eqb-true (r .ioa) ioa (o .0))))
+        (eq-eqb (nof .value) (r .nof .value) (sym (eqb-true (r .nof .value) (nof .value) (n .0))))
+
+    by-sent : (z : Sent) → answersTo (frameOf (r .ioa) (r .nof) z) (F.LastSection ioa nof nos lsq chs) ≡ true → sameFile (r .ioa) (r .nof) ioa nof ≡ true
+    by-sent S.Nothing h = same _ _ h
+    by-sent (S.Request action nos) h = same _ _ h
+    by-sent (S.Acknowledgement action nos) h = same _ _ h
+
+-- an answer that is admitted
+by-test : (b : Bool) → when b A.Answered (A.Err E.EchoMismatch) ≡ A.Answered → b ≡ true
+unfolding when
+by-test true e = refl
+by-test false e = cc
+
+answers-sent : (sent f : Frame) (x : Reaction) → answering sent (D.Frame f) x ≡ A.Answered → answersTo sent f ≡ true
+unfolding matched
+answers-sent sent f A.Answered e = by-test (answersTo sent f) e
+answers-sent sent f A.Requested e = cc
+answers-sent sent f (A.Refused cause mirror) e = cc
+answers-sent sent f (A.Discard why) e = cc
+answers-sent sent f A.Other e = cc
+answers-sent sent f (A.Err k) e = cc
+
+-- ---- one call
+
+module _ (r : Receiver) (store : List ℕ) (received : Received) where
+  -- it completed with n octets
+  pub record Finished (o : Outcome) (n : ℕ) : Type 0 where
+    pub frame : Frame
+    pub handed : received ≡ D.Frame frame
+    pub close : closesFile (r .ioa) (r .nof) frame ≡ true
+    pub sum : checksum (keptOctets r store) ≡ statedSum frame
+    pub named : n ≡ r .kept
+    pub whole : r .kept ≤ length store
+    pub stored : o .store ≡ store
+    pub done : o .step .receiver .done ≡ true
+    pub kept : o .step .receiver .kept ≡ n
+
+  -- by its answer
+  abbrev pub AsAnswered : Outcome → ReceiverAnswer → Type 0
+  AsAnswered o R.Running = NoAcceptance (framesByReceiver (o .step))
+  AsAnswered o R.Send = NoAcceptance (framesByReceiver (o .step))
+  AsAnswered o (R.Complete n) = Finished o n
+  AsAnswered o (R.FileNotReady frq) = NoAcceptance (framesByReceiver (o .step))
+  AsAnswered o (R.SectionNotReady nos srq) = NoAcceptance (framesByReceiver (o .step))
+  AsAnswered o (R.FileChecksum expected got) = NoAcceptance (framesByReceiver (o .step))
+  AsAnswered o (R.UnknownLsq lsq) = NoAcceptance (framesByReceiver (o .step))
+  AsAnswered o (R.Refused cause mirror) = NoAcceptance (framesByReceiver (o .step))
+  AsAnswered o (R.Err e) = NoAcceptance (framesByReceiver (o .step))
+
+  pub record Right (o : Outcome) : Type 0 where
+    pub object : o .step .receiver .ioa ≡ r .ioa
+    pub name : o .step .receiver .nof ≡ r .nof
+    pub right : AsAnswered o (o .step .answer)
+
+  is-right : (o : Outcome) → o .step .receiver .ioa ≡ r .ioa → o .step .receiver .nof ≡ r .nof → AsAnswered o (o .step .answer) → Right o
+  is-right o i n a = record { object = i; name = n; right = a }
+
+  -- a step that leaves the store as it is
+  record RightAt (t : ReceiverStep) : Type 0 where
+    at : Right (leaving store t)
+
+  quiet : (t : ReceiverStep) → t .receiver .ioa ≡ r .ioa → t .receiver .nof ≡ r .nof → AsAnswered (leaving store t) (t .answer) → RightAt t
+  quiet t i n a = record { at = is-right (leaving store t) i n a }
+
+  file-ready-right : (lof : Lof) (frq : Frq) → RightAt (onFileReady r lof frq)
+  unfolding onFileReady
+  file-ready-right lof frq =
+      either RightAt _ _ _ (quiet _ refl refl (sends-nothing _ refl)) (quiet _ refl refl (sends-request _ _ _ refl refl))
+
+  section-ready-right : (nos : Nos) (srq : Srq) → RightAt (onSectionReady r nos srq)
+  unfolding onSectionReady
+  section-ready-right nos srq =
+      either RightAt _ _ _ (quiet _ refl refl (sends-nothing _ refl)) (quiet _ refl refl (sends-request _ _ _ refl refl))
+
+  section-close-right : (nos : Nos) (chs : Chs) → RightAt (onSectionClose r store nos chs)
+  unfolding onSectionClose
+  section-close-right nos chs =
+      either RightAt _ _ _ (quiet _ refl refl (sends-acknowledgement _ _ _ refl refl refl)) (quiet _ refl refl (sends-acknowledgement _ _ _ refl refl refl))
+
+  module _ (agreed : storeAgrees r store ≡ true) where
+    file-close-right : (f : Frame) (nos : Nos) (chs : Chs) → received ≡ D.Frame f → closesFile (r .ioa) (r .nof) f ≡ true → statedSum f ≡ chs .value
+        → RightAt (onFileClose r store nos chs)
+    unfolding onFileClose
+    file-close-right f nos chs is close states =
+        if-so RightAt _ _ _
+        (λ e.
+        quiet (stepped (closing r (S.Acknowledgement 1 nos)) (R.Complete (r .kept))) refl refl
+        (record {
+          frame = f;
+          handed = is;
+          close = close;
+          sum = rw states (eqb-true _ _ e);
+          named = refl;
+          whole = omega (arith, agrees-held r store agreed);
+          stored = refl;
+          done = refl;
+          kept = refl;
+        }))
+        (quiet _ refl refl (sends-acknowledgement _ _ _ refl refl refl))
+
+    close-right : (ioa : ℕ) (nof : Nof) (nos : Nos) (lsq : Lsq) (chs : Chs) → received ≡ D.Frame (F.LastSection ioa nof nos lsq chs)
+        → answersTo (awaited r) (F.LastSection ioa nof nos lsq chs) ≡ true → RightAt (onClose r store nos lsq chs)
+    unfolding onClose awaited
+    close-right ioa nof nos lsq chs is answer =
+        either RightAt _ _ _ (section-close-right nos chs)
+        (if-so RightAt _ _ _
+        (λ e. file-close-right (F.LastSection ioa nof nos lsq chs) nos chs is (both-so _ _ e (answers-file r (r .sent) ioa nof nos lsq chs answer)) refl)
+        (quiet _ refl refl (sends-nothing _ refl)))
+
+    segment-right : (payload : List ℕ) → Right (onSegment r store payload)
+    unfolding onSegment
+    segment-right payload = either Right _ _ _ (is-right _ refl refl (sends-nothing _ refl)) (is-right _ refl refl (sends-nothing _ refl))
+
+    answered-right : (payload : List ℕ) (f : Frame) → received ≡ D.Frame f → answersTo (awaited r) f ≡ true → Right (onAnswered r store payload f)
+    answered-right payload (F.FileReady ioa nof lof frq) is e = file-ready-right lof frq .at
+    answered-right payload (F.SectionReady ioa nof nos lof srq) is e = section-ready-right nos srq .at
+    answered-right payload (F.Sc ioa nof nos scq) is e = is-right _ refl refl (sends-nothing _ refl)
+    answered-right payload (F.LastSection ioa nof nos lsq chs) is e = close-right ioa nof nos lsq chs is e .at
+    answered-right payload (F.Ack ioa nof nos afq) is e = is-right _ refl refl (sends-nothing _ refl)
+    answered-right payload (F.Segment ioa nof nos los) is e = segment-right payload
+    answered-right payload (F.Directory ioa cause) is e = is-right _ refl refl (sends-nothing _ refl)
+    answered-right payload (F.QueryLog ioa nof start stop) is e = is-right _ refl refl (sends-nothing _ refl)
+
+    received-right : (payload : List ℕ) (y : Received) (a : Reaction) → received ≡ y → answering (awaited r) y a ≡ A.Answered
+        → Right (onReceived r store payload y)
+    received-right payload (D.Frame f) a is e = answered-right payload f is (answers-sent (awaited r) f a e)
+    received-right payload D.Undecodable a is e = is-right _ refl refl (sends-nothing _ refl)
+
+    admitted-right : (payload : List ℕ) (a b : Reaction) → answering (awaited r) received a ≡ b → Right (receiveAdmitted r store payload received b)
+    admitted-right payload a A.Requested e = is-right _ refl refl (sends-nothing _ refl)
+    admitted-right payload a A.Answered e = received-right payload received a refl e
+    admitted-right payload a (A.Refused cause mirror) e = is-right _ refl refl (sends-nothing _ refl)
+    admitted-right payload a (A.Discard why) e = is-right _ refl refl (sends-nothing _ refl)
+    admitted-right payload a A.Other e = is-right _ refl refl (sends-nothing _ refl)
+    admitted-right payload a (A.Err k) e = is-right _ refl refl (sends-nothing _ refl)
+
+pub receives-right : (r : Receiver) (store : List ℕ) (x : Input) → Right r store (x .received) (receives r store x)
+unfolding receive onAnswer
+receives-right r store x =
+    if-so (Right r store (x .received)) _ _ _
+    (λ agreed.
+    either (Right r store (x .received)) _ _ _ (is-right r store (x .received) _ refl refl (sends-nothing _ refl))
+    (admitted-right r store (x .received) agreed (x .beside) (onAsdu (r .procedure) (x .header) (x .unknown) (x .received) (x .beside)) _ refl))
+    (is-right r store (x .received) _ refl refl (sends-nothing _ refl))
+
+-- ---- the statements
+
+pub receiver-completes-only : ReceiverCompletesOnly
+receiver-completes-only r store x n e =
+    let d : Finished r store (x .received) (receives r store x) n =
+    subst (λ (a : ReceiverAnswer). AsAnswered r store (x .received) (receives r store x) a) e (receives-right r store x .right) in
+    record { frame = d .frame; handed = d .handed; close = d .close; sum = d .sum; named = d .named; whole = d .whole; stored = d .stored }
+
+module _ (r : Receiver) (store : List ℕ) (received : Received) (o : Outcome) (object : ℕ) (name : Nof) (f : Frame)
+    (sent : Among f (framesByReceiver (o .step))) (accepts : acceptsFile object name f ≡ true) where
+  completes-by : (a : ReceiverAnswer) → o .step .answer ≡ a → AsAnswered r store received o a → (n : ℕ) × (o .step .answer ≡ R.Complete n)
+  completes-by R.Running is h = absurd (h object name f sent accepts)
+  completes-by R.Send is h = absurd (h object name f sent accepts)
+  completes-by (R.Complete n) is h = (n, is)
+  completes-by (R.FileNotReady frq) is h = absurd (h object name f sent accepts)
+  completes-by (R.SectionNotReady nos srq) is h = absurd (h object name f sent accepts)
+  completes-by (R.FileChecksum expected got) is h = absurd (h object name f sent accepts)
+  completes-by (R.UnknownLsq lsq) is h = absurd (h object name f sent accepts)
+  completes-by (R.Refused cause mirror) is h = absurd (h object name f sent accepts)
+  completes-by (R.Err k) is h = absurd (h object name f sent accepts)
+
+pub receiver-accepts-only : ReceiverAcceptsOnly
+receiver-accepts-only r store x object name f sent accepts =
+    completes-by r store (x .received) (receives r store x) object name f sent accepts _ refl (receives-right r store x .right)
