@@ -1,3 +1,4 @@
 pub mod Choosing
 pub mod Receiving
 pub mod Providing
+pub mod Theorem

@@ -9,10 +9,14 @@ use Rattle.asdu.specs.declared.Nof.{Nof}
 use Rattle.asdu.specs.declared.Nos.{Nos}
 use Rattle.asdu.specs.declared.Scq.{Scq}
 use Rattle.asdu.specs.declared.Afq.{Afq}
+use Rattle.asdu.specs.declared.FtError.{FtError}
 use Rattle.frame.specs.declared.Frame.{Frame}
 use Rattle.frame.specs.declared.Frame.the-variants as F
 use Rattle.checksum.specs.Checksum.{checksum}
 use Rattle.ft.specs.Admission.{onAsdu}
+use Rattle.ft.specs.Building.{framed, built}
+use Rattle.ft.specs.declared.AsduResult.{AsduResult}
+use Rattle.ft.specs.declared.AsduResult.the-variants as B
 use Rattle.ft.specs.declared.Received.{Received}
 use Rattle.ft.specs.declared.Received.the-variants as D
 use Rattle.ft.specs.declared.Reaction.{Reaction}
@@ -20,17 +24,20 @@ use Rattle.ft.specs.declared.Reaction.the-variants as A
 use Rattle.provide.specs.Sections.{segments}
 use Rattle.provide.specs.Record.{ended}
 use Rattle.provide.specs.Requests.{stepped, onSc, onAck, isOurs, onOurs, onRequest, onRequested, provideAdmitted, provide}
-use Rattle.provide.specs.Replies.{Packet, bare, octetsOf, limitOf, segmentPacket, closeFrame, replies}
+use Rattle.provide.specs.Replies.{Packet, bare, octetsOf, limitOf, segmentPacket, fileReady, closeFrame, replies, frameOf, announced}
 use Rattle.provide.specs.declared.Provider.{Provider}
 use Rattle.provide.specs.declared.ProviderStep.{ProviderStep}
 use Rattle.provide.specs.declared.Reply.{Reply}
 use Rattle.provide.specs.declared.Reply.the-variants.{Nothing, FileReady, SectionReady, Section, FileClose}
 use Rattle.provide.specs.declared.ProviderAnswer.{ProviderAnswer}
 use Rattle.provide.specs.declared.ProviderAnswer.the-variants as P
+use Rattle.provide.specs.declared.FrameResult.{FrameResult}
+use Rattle.provide.specs.declared.FrameResult.the-variants.{Err}
 use Rattle.exchange.specs.Exchange.{providerSends}
 use Rattle.exchange.specs.Lines.{statedSum}
 use Rattle.history.specs.Calls.{acceptsFile, closesFile, sameFile, Input, provides, framesOf, Among, ProviderCompletesOnly, ProviderClosesOnly}
-use Rattle.history.proofs.Choosing.{if-so, either, both-so, never}
+use Rattle.history.specs.Events.{providerCompletion, announcedFrames}
+use Rattle.history.proofs.Choosing.{by-test, if-so, either, both-so, never}
 
 -- ---- what it sends
 
@@ -76,6 +83,38 @@ answers-state p file (P.Deactivated q) = none-states (checksum file)
 answers-state p file (P.FileRejected q) = none-states (checksum file)
 answers-state p file (P.Refused cause mirror) = none-states (checksum file)
 answers-state p file (P.Err e) = none-states (checksum file)
+
+-- an announcement is none either
+record FrameStates (sum : ℕ) (a : FrameResult) : Type 0 where
+  states : Stated sum (announcedFrames a)
+
+record BuiltStates (sum : ℕ) (a : AsduResult) : Type 0 where
+  built : FrameStates sum (frameOf a)
+
+refused : (sum : ℕ) (e : FtError) → FrameStates sum (Err e)
+refused sum e = record { states = none-states sum }
+
+not-built : (sum : ℕ) (e : FtError) → BuiltStates sum (B.Err e)
+not-built sum e = record { built = refused sum e }
+
+framed-states : (sum : ℕ) (p : Provider) → BuiltStates sum (framed (p .procedure .sizes) (p .procedure .ca) (p .procedure .org) (fileReady p) [])
+unfolding framed
+framed-states sum p =
+    either (BuiltStates sum) _ _ _
+    (either (BuiltStates sum) _ _ _
+    (either (BuiltStates sum) _ _ _ (record { built = record { states = no-close sum (fileReady p) [] (λ object name. refl) (none-states sum) } }) (not-built sum _))
+    (not-built sum _)) (not-built sum _)
+
+built-states : (sum : ℕ) (p : Provider) → BuiltStates sum (built (p .procedure) (fileReady p) [])
+unfolding built
+built-states sum p =
+    either (BuiltStates sum) _ _ _ (either (BuiltStates sum) _ _ _ (either (BuiltStates sum) _ _ _ (framed-states sum p) (not-built sum _)) (not-built sum _)) (not-built sum _)
+
+pub announced-states : (sum : ℕ) (p : Provider) (file : List ℕ) → Stated sum (announcedFrames (announced p file))
+unfolding announced
+announced-states sum p file =
+    let t : FrameStates sum (announced p file) = either (FrameStates sum) _ _ _ (built-states sum p .built) (refused sum _) in
+    t .states
 
 -- ---- one call
 
@@ -154,6 +193,19 @@ provides-right p file x =
     (either (Right p (x .received)) _ _ _ (is-right p (x .received) _ refl refl tt)
     (admitted-right p (x .received) (onAsdu (p .procedure) (x .header) (x .unknown) (x .received) (x .beside))))
     (is-right p (x .received) _ refl refl tt)
+
+-- ---- a Provider that is done stays so, and completes no more
+
+pub record Still (t : ProviderStep) : Type 0 where
+  pub done : t .provider .done ≡ true
+  pub none : providerCompletion (t .answer) ≡ []
+
+pub provides-still : (p : Provider) (file : List ℕ) (x : Input) → p .done ≡ true → Still (provides p file x)
+unfolding provide
+provides-still p file x over =
+    either Still _ _ _
+    (by-test Still _ _ _ (λ e. record { done = over; none = refl }) (λ e. absurd (never (p .done) e over)))
+    (record { done = over; none = refl })
 
 -- ---- the statements
 

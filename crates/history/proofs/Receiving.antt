@@ -1,9 +1,9 @@
 -- Whatever is handed to a Receiver: it completes, and so sends AFQ 1, only on a file close that states the sum of what it holds.
 use Prim.Native.Nat.{ℕ, _≤_}
-use mathlib.Core.Path.{_≡_, refl, sym, subst}
+use mathlib.Core.Path.{_≡_, refl, sym, _∙_, subst}
 use mathlib.Core.Logic.{_⊎_, inl, inr}
 use mathlib.Core.Bool.{Bool, true, false}
-use mathlib.Core.List.{List}
+use mathlib.Core.List.{List, []}
 use native.Mathlib.Omega.{arith}
 use lib.Dec.{eqb}
 use lib.ListN.{length}
@@ -23,11 +23,14 @@ use Rattle.frame.specs.declared.Frame.the-variants as F
 use Rattle.frame.specs.Answers.{namesAgree, answersTo}
 use Rattle.checksum.specs.Checksum.{checksum}
 use Rattle.ft.specs.Admission.{onAsdu, matched, answering, onAnswer}
+use Rattle.ft.specs.Building.{built}
+use Rattle.ft.specs.declared.AsduResult.{AsduResult}
+use Rattle.ft.specs.declared.AsduResult.the-variants as B
 use Rattle.ft.specs.declared.Received.{Received}
 use Rattle.ft.specs.declared.Received.the-variants as D
 use Rattle.ft.specs.declared.Reaction.{Reaction}
 use Rattle.ft.specs.declared.Reaction.the-variants as A
-use Rattle.receive.specs.Record.{storeAgrees, keptOctets, frameOf, awaited, stepped}
+use Rattle.receive.specs.Record.{storeAgrees, keptOctets, frameOf, awaited, select, stepped, startedWith, started}
 use Rattle.receive.specs.Answers.{Outcome, closing, leaving, onFileReady, onSectionReady, onSectionClose, onFileClose, onClose, onSegment, onAnswered, onReceived, receiveAdmitted, receive, sends, toSend}
 use Rattle.receive.specs.declared.Sent.{Sent}
 use Rattle.receive.specs.declared.Sent.the-variants as S
@@ -38,7 +41,8 @@ use Rattle.receive.specs.declared.ReceiverAnswer.the-variants as R
 use Rattle.receive.proofs.Starting.{agrees-held}
 use Rattle.exchange.specs.Lines.{statedSum}
 use Rattle.history.specs.Calls.{acceptsFile, closesFile, sameFile, Input, receives, framesByReceiver, Among, ReceiverCompletesOnly, ReceiverAcceptsOnly}
-use Rattle.history.proofs.Choosing.{if-so, either, both-so, never}
+use Rattle.history.specs.Events.{receiverCompletion}
+use Rattle.history.proofs.Choosing.{by-test, if-so, either, both-so, never}
 
 -- ---- what a step sends that does not complete
 
@@ -92,14 +96,14 @@ answers-file r s ioa nof nos lsq chs e = by-sent s e
     by-sent (S.Acknowledgement action nos) h = same _ _ h
 
 -- an answer that is admitted
-by-test : (b : Bool) → when b A.Answered (A.Err E.EchoMismatch) ≡ A.Answered → b ≡ true
+was-answered : (b : Bool) → when b A.Answered (A.Err E.EchoMismatch) ≡ A.Answered → b ≡ true
 unfolding when
-by-test true e = refl
-by-test false e = cc
+was-answered true e = refl
+was-answered false e = cc
 
 answers-sent : (sent f : Frame) (x : Reaction) → answering sent (D.Frame f) x ≡ A.Answered → answersTo sent f ≡ true
 unfolding matched
-answers-sent sent f A.Answered e = by-test (answersTo sent f) e
+answers-sent sent f A.Answered e = was-answered (answersTo sent f) e
 answers-sent sent f A.Requested e = cc
 answers-sent sent f (A.Refused cause mirror) e = cc
 answers-sent sent f (A.Discard why) e = cc
@@ -228,6 +232,53 @@ receives-right r store x =
     either (Right r store (x .received)) _ _ _ (is-right r store (x .received) _ refl refl (sends-nothing _ refl))
     (admitted-right r store (x .received) agreed (x .beside) (onAsdu (r .procedure) (x .header) (x .unknown) (x .received) (x .beside)) _ refl))
     (is-right r store (x .received) _ refl refl (sends-nothing _ refl))
+
+-- the start likewise, which completes nothing
+starts-with-right : (r : Receiver) (store : List ℕ) (received : Received) (a : AsduResult) → RightAt r store received (startedWith r a)
+starts-with-right r store received (B.Ok a) = quiet r store received _ refl refl (sends-request _ _ _ refl refl)
+starts-with-right r store received (B.Err e) = quiet r store received _ refl refl (sends-nothing _ refl)
+
+pub starts-right : (r : Receiver) (store : List ℕ) (received : Received) → Right r store received (leaving store (started r store))
+unfolding started
+starts-right r store received =
+    let t : RightAt r store received (started r store) =
+    either (RightAt r store received) _ _ _ (starts-with-right r store received (built (r .procedure) (select r) [])) (quiet r store received _ refl refl (sends-nothing _ refl)) in
+    t .at
+
+-- ---- a Receiver that is done
+
+-- it stays so, and the store and what it holds as accepted stay; it completes no more
+pub record Still (r : Receiver) (store : List ℕ) (o : Outcome) : Type 0 where
+  pub done : o .step .receiver .done ≡ true
+  pub kept : o .step .receiver .kept ≡ r .kept
+  pub stored : o .store ≡ store
+  pub none : receiverCompletion (o .step .answer) ≡ []
+
+module _ (r : Receiver) (store : List ℕ) (over : r .done ≡ true) where
+  is-still : (o : Outcome) → o .step .receiver .done ≡ r .done → o .step .receiver .kept ≡ r .kept → o .store ≡ store
+      → receiverCompletion (o .step .answer) ≡ [] → Still r store o
+  is-still o d k s n = record { done = d ∙ over; kept = k; stored = s; none = n }
+
+  pub receives-still : (x : Input) → Still r store (receives r store x)
+  unfolding receive
+  receives-still x =
+      either (Still r store) _ _ _
+      (by-test (Still r store) _ _ _ (λ e. is-still _ refl refl refl refl) (λ e. absurd (never (r .done) e over)))
+      (is-still _ refl refl refl refl)
+
+  record StillAt (t : ReceiverStep) : Type 0 where
+    at : Still r store (leaving store t)
+
+  start-with-still : (a : AsduResult) → StillAt (startedWith r a)
+  start-with-still (B.Ok a) = record { at = is-still _ refl refl refl refl }
+  start-with-still (B.Err e) = record { at = is-still _ refl refl refl refl }
+
+  pub starts-still : Still r store (leaving store (started r store))
+  unfolding started
+  starts-still =
+      let t : StillAt (started r store) =
+      either StillAt _ _ _ (start-with-still (built (r .procedure) (select r) [])) (record { at = is-still _ refl refl refl refl }) in
+      t .at
 
 -- ---- the statements
 
