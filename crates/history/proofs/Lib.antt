@@ -2,4 +2,4 @@ pub mod Choosing
 pub mod Receiving
 pub mod Providing
 pub mod Theorem
-pub mod Forged
+pub mod Worked

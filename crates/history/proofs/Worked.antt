@@ -27,7 +27,7 @@ use Rattle.exchange.specs.Script.{station}
 use Rattle.history.specs.Calls.{acceptsFile, closesFile}
 use Rattle.history.specs.Events.{Event}
 use Rattle.history.specs.Held.{History}
-use Rattle.history.specs.Forged.{workedName, offeredFile, offeredSection, acknowledgement, zeroClose, forgedAcceptance, FreedUnheld, forgedClose, SumsDiffer, closedUnsent, OctetsDiffer}
+use Rattle.history.specs.Worked.{workedName, offeredFile, offeredSection, acknowledgement, zeroClose, forgedAcceptance, FreedUnheld, forgedClose, SumsDiffer, closedUnsent, OctetsDiffer}
 use Rattle.history.proofs.Choosing.{never}
 
 -- a file of two octets between document 01's worked stations
