@@ -1,4 +1,4 @@
--- What holds of the value that a test chooses, and what no frame of a list can be.
+-- What holds of the value that a test chooses, and of one of two lists joined.
 use mathlib.Core.Path.{_≡_, refl, sym, _∙_}
 use mathlib.Core.Logic.{_⊎_, inl, inr}
 use mathlib.Core.Bool.{Bool, true, false, true≢false}

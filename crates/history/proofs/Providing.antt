@@ -9,6 +9,8 @@ use Rattle.asdu.specs.declared.Nof.{Nof}
 use Rattle.asdu.specs.declared.Nos.{Nos}
 use Rattle.asdu.specs.declared.Scq.{Scq}
 use Rattle.asdu.specs.declared.Afq.{Afq}
+use Rattle.asdu.specs.declared.Header.{Header}
+use Rattle.asdu.specs.declared.UnknownField.{UnknownField}
 use Rattle.asdu.specs.declared.FtError.{FtError}
 use Rattle.frame.specs.declared.Frame.{Frame}
 use Rattle.frame.specs.declared.Frame.the-variants as F
@@ -35,7 +37,7 @@ use Rattle.provide.specs.declared.FrameResult.{FrameResult}
 use Rattle.provide.specs.declared.FrameResult.the-variants.{Err}
 use Rattle.exchange.specs.Exchange.{providerSends}
 use Rattle.exchange.specs.Lines.{statedSum}
-use Rattle.history.specs.Calls.{acceptsFile, closesFile, sameFile, Input, provides, framesOf, Among, ProviderCompletesOnly, ProviderClosesOnly}
+use Rattle.history.specs.Calls.{closesFile, sameFile, Input, provides, framesOf, Among, AcceptedWith, ProviderCompletesOnly, ProviderClosesOnly}
 use Rattle.history.specs.Events.{providerCompletion, announcedFrames}
 use Rattle.history.proofs.Choosing.{by-test, if-so, either, both-so, never}
 
@@ -119,17 +121,10 @@ announced-states sum p file =
 -- ---- one call
 
 module _ (p : Provider) (received : Received) where
-  -- it completed
-  pub record Finished (t : ProviderStep) : Type 0 where
-    pub frame : Frame
-    pub handed : received ≡ D.Frame frame
-    pub acknowledgement : acceptsFile (p .ioa) (p .nof) frame ≡ true
-    pub done : t .provider .done ≡ true
-
   -- by its answer
   abbrev pub AsAnswered : ProviderStep → ProviderAnswer → Type 0
   AsAnswered t (P.Running r) = Unit {0}
-  AsAnswered t P.Complete = Finished t
+  AsAnswered t P.Complete = AcceptedWith p received t
   AsAnswered t (P.Deactivated q) = Unit {0}
   AsAnswered t (P.FileRejected q) = Unit {0}
   AsAnswered t (P.Refused cause mirror) = Unit {0}
@@ -186,13 +181,16 @@ module _ (p : Provider) (received : Received) where
   admitted-right A.Other = is-right _ refl refl tt
   admitted-right (A.Err e) = is-right _ refl refl tt
 
-pub provides-right : (p : Provider) (file : List ℕ) (x : Input) → Right p (x .received) (provides p file x)
+provide-right : (p : Provider) (file : List ℕ) (h : Header) (unknown : UnknownField) (received : Received) (beside : List ℕ)
+    → Right p received (provide p file h unknown received beside)
 unfolding provide
-provides-right p file x =
-    either (Right p (x .received)) _ _ _
-    (either (Right p (x .received)) _ _ _ (is-right p (x .received) _ refl refl tt)
-    (admitted-right p (x .received) (onAsdu (p .procedure) (x .header) (x .unknown) (x .received) (x .beside))))
-    (is-right p (x .received) _ refl refl tt)
+provide-right p file h unknown received beside =
+    either (Right p received) _ _ _
+    (either (Right p received) _ _ _ (is-right p received _ refl refl tt) (admitted-right p received (onAsdu (p .procedure) h unknown received beside)))
+    (is-right p received _ refl refl tt)
+
+pub provides-right : (p : Provider) (file : List ℕ) (x : Input) → Right p (x .received) (provides p file x)
+provides-right p file x = provide-right p file (x .header) (x .unknown) (x .received) (x .beside)
 
 -- ---- a Provider that is done stays so, and completes no more
 
@@ -200,20 +198,22 @@ pub record Still (t : ProviderStep) : Type 0 where
   pub done : t .provider .done ≡ true
   pub none : providerCompletion (t .answer) ≡ []
 
-pub provides-still : (p : Provider) (file : List ℕ) (x : Input) → p .done ≡ true → Still (provides p file x)
+provide-still : (p : Provider) (file : List ℕ) (h : Header) (unknown : UnknownField) (received : Received) (beside : List ℕ) → p .done ≡ true
+    → Still (provide p file h unknown received beside)
 unfolding provide
-provides-still p file x over =
+provide-still p file h unknown received beside over =
     either Still _ _ _
     (by-test Still _ _ _ (λ e. record { done = over; none = refl }) (λ e. absurd (never (p .done) e over)))
     (record { done = over; none = refl })
+
+pub provides-still : (p : Provider) (file : List ℕ) (x : Input) → p .done ≡ true → Still (provides p file x)
+provides-still p file x = provide-still p file (x .header) (x .unknown) (x .received) (x .beside)
 
 -- ---- the statements
 
 pub provider-completes-only : ProviderCompletesOnly
 provider-completes-only p file x e =
-    let d : Finished p (x .received) (provides p file x) =
-    subst (λ (a : ProviderAnswer). AsAnswered p (x .received) (provides p file x) a) e (provides-right p file x .right) in
-    record { frame = d .frame; handed = d .handed; acknowledgement = d .acknowledgement }
+    subst (λ (a : ProviderAnswer). AsAnswered p (x .received) (provides p file x) a) e (provides-right p file x .right)
 
 pub provider-closes-only : ProviderClosesOnly
 provider-closes-only p file x = answers-state (provides p file x .provider) file (provides p file x .answer)

@@ -1,12 +1,11 @@
 -- Whatever is handed to a Receiver: it completes, and so sends AFQ 1, only on a file close that states the sum of what it holds.
-use Prim.Native.Nat.{ℕ, _≤_}
+use Prim.Native.Nat.{ℕ}
 use mathlib.Core.Path.{_≡_, refl, sym, _∙_, subst}
 use mathlib.Core.Logic.{_⊎_, inl, inr}
 use mathlib.Core.Bool.{Bool, true, false}
 use mathlib.Core.List.{List, []}
 use native.Mathlib.Omega.{arith}
 use lib.Dec.{eqb}
-use lib.ListN.{length}
 use borrow.Author.Tests.{eqb-true, eq-eqb}
 use Rattle.laws.specs.When.{when, _and_}
 use Rattle.asdu.proofs.Range.{both}
@@ -17,11 +16,12 @@ use Rattle.asdu.specs.declared.Frq.{Frq}
 use Rattle.asdu.specs.declared.Srq.{Srq}
 use Rattle.asdu.specs.declared.Lsq.{Lsq}
 use Rattle.asdu.specs.declared.Chs.{Chs}
+use Rattle.asdu.specs.declared.Header.{Header}
+use Rattle.asdu.specs.declared.UnknownField.{UnknownField}
 use Rattle.asdu.specs.declared.FtError.the-variants as E
 use Rattle.frame.specs.declared.Frame.{Frame}
 use Rattle.frame.specs.declared.Frame.the-variants as F
 use Rattle.frame.specs.Answers.{namesAgree, answersTo}
-use Rattle.checksum.specs.Checksum.{checksum}
 use Rattle.ft.specs.Admission.{onAsdu, matched, answering, onAnswer}
 use Rattle.ft.specs.Building.{built}
 use Rattle.ft.specs.declared.AsduResult.{AsduResult}
@@ -30,7 +30,7 @@ use Rattle.ft.specs.declared.Received.{Received}
 use Rattle.ft.specs.declared.Received.the-variants as D
 use Rattle.ft.specs.declared.Reaction.{Reaction}
 use Rattle.ft.specs.declared.Reaction.the-variants as A
-use Rattle.receive.specs.Record.{storeAgrees, keptOctets, frameOf, awaited, select, stepped, startedWith, started}
+use Rattle.receive.specs.Record.{storeAgrees, frameOf, awaited, select, stepped, startedWith, started}
 use Rattle.receive.specs.Answers.{Outcome, closing, leaving, onFileReady, onSectionReady, onSectionClose, onFileClose, onClose, onSegment, onAnswered, onReceived, receiveAdmitted, receive, sends, toSend}
 use Rattle.receive.specs.declared.Sent.{Sent}
 use Rattle.receive.specs.declared.Sent.the-variants as S
@@ -40,7 +40,7 @@ use Rattle.receive.specs.declared.ReceiverAnswer.{ReceiverAnswer}
 use Rattle.receive.specs.declared.ReceiverAnswer.the-variants as R
 use Rattle.receive.proofs.Starting.{agrees-held}
 use Rattle.exchange.specs.Lines.{statedSum}
-use Rattle.history.specs.Calls.{acceptsFile, closesFile, sameFile, Input, receives, framesByReceiver, Among, ReceiverCompletesOnly, ReceiverAcceptsOnly}
+use Rattle.history.specs.Calls.{acceptsFile, closesFile, sameFile, Input, receives, framesByReceiver, Among, ClosedWith, ReceiverCompletesOnly, ReceiverAcceptsOnly}
 use Rattle.history.specs.Events.{receiverCompletion}
 use Rattle.history.proofs.Choosing.{by-test, if-so, either, both-so, never}
 
@@ -113,23 +113,11 @@ answers-sent sent f (A.Err k) e = cc
 -- ---- one call
 
 module _ (r : Receiver) (store : List ℕ) (received : Received) where
-  -- it completed with n octets
-  pub record Finished (o : Outcome) (n : ℕ) : Type 0 where
-    pub frame : Frame
-    pub handed : received ≡ D.Frame frame
-    pub close : closesFile (r .ioa) (r .nof) frame ≡ true
-    pub sum : checksum (keptOctets r store) ≡ statedSum frame
-    pub named : n ≡ r .kept
-    pub whole : r .kept ≤ length store
-    pub stored : o .store ≡ store
-    pub done : o .step .receiver .done ≡ true
-    pub kept : o .step .receiver .kept ≡ n
-
   -- by its answer
   abbrev pub AsAnswered : Outcome → ReceiverAnswer → Type 0
   AsAnswered o R.Running = NoAcceptance (framesByReceiver (o .step))
   AsAnswered o R.Send = NoAcceptance (framesByReceiver (o .step))
-  AsAnswered o (R.Complete n) = Finished o n
+  AsAnswered o (R.Complete n) = ClosedWith r store received n o
   AsAnswered o (R.FileNotReady frq) = NoAcceptance (framesByReceiver (o .step))
   AsAnswered o (R.SectionNotReady nos srq) = NoAcceptance (framesByReceiver (o .step))
   AsAnswered o (R.FileChecksum expected got) = NoAcceptance (framesByReceiver (o .step))
@@ -224,14 +212,18 @@ module _ (r : Receiver) (store : List ℕ) (received : Received) where
     admitted-right payload a A.Other e = is-right _ refl refl (sends-nothing _ refl)
     admitted-right payload a (A.Err k) e = is-right _ refl refl (sends-nothing _ refl)
 
-pub receives-right : (r : Receiver) (store : List ℕ) (x : Input) → Right r store (x .received) (receives r store x)
+receive-right : (r : Receiver) (store : List ℕ) (h : Header) (unknown : UnknownField) (received : Received) (beside : List ℕ)
+    → Right r store received (receive r store h unknown received beside)
 unfolding receive onAnswer
-receives-right r store x =
-    if-so (Right r store (x .received)) _ _ _
+receive-right r store h unknown received beside =
+    if-so (Right r store received) _ _ _
     (λ agreed.
-    either (Right r store (x .received)) _ _ _ (is-right r store (x .received) _ refl refl (sends-nothing _ refl))
-    (admitted-right r store (x .received) agreed (x .beside) (onAsdu (r .procedure) (x .header) (x .unknown) (x .received) (x .beside)) _ refl))
-    (is-right r store (x .received) _ refl refl (sends-nothing _ refl))
+    either (Right r store received) _ _ _ (is-right r store received _ refl refl (sends-nothing _ refl))
+    (admitted-right r store received agreed beside (onAsdu (r .procedure) h unknown received beside) _ refl))
+    (is-right r store received _ refl refl (sends-nothing _ refl))
+
+pub receives-right : (r : Receiver) (store : List ℕ) (x : Input) → Right r store (x .received) (receives r store x)
+receives-right r store x = receive-right r store (x .header) (x .unknown) (x .received) (x .beside)
 
 -- the start likewise, which completes nothing
 starts-with-right : (r : Receiver) (store : List ℕ) (received : Received) (a : AsduResult) → RightAt r store received (startedWith r a)
@@ -259,12 +251,15 @@ module _ (r : Receiver) (store : List ℕ) (over : r .done ≡ true) where
       → receiverCompletion (o .step .answer) ≡ [] → Still r store o
   is-still o d k s n = record { done = d ∙ over; kept = k; stored = s; none = n }
 
-  pub receives-still : (x : Input) → Still r store (receives r store x)
+  receive-still : (h : Header) (unknown : UnknownField) (received : Received) (beside : List ℕ) → Still r store (receive r store h unknown received beside)
   unfolding receive
-  receives-still x =
+  receive-still h unknown received beside =
       either (Still r store) _ _ _
       (by-test (Still r store) _ _ _ (λ e. is-still _ refl refl refl refl) (λ e. absurd (never (r .done) e over)))
       (is-still _ refl refl refl refl)
+
+  pub receives-still : (x : Input) → Still r store (receives r store x)
+  receives-still x = receive-still (x .header) (x .unknown) (x .received) (x .beside)
 
   record StillAt (t : ReceiverStep) : Type 0 where
     at : Still r store (leaving store t)
@@ -284,9 +279,7 @@ module _ (r : Receiver) (store : List ℕ) (over : r .done ≡ true) where
 
 pub receiver-completes-only : ReceiverCompletesOnly
 receiver-completes-only r store x n e =
-    let d : Finished r store (x .received) (receives r store x) n =
-    subst (λ (a : ReceiverAnswer). AsAnswered r store (x .received) (receives r store x) a) e (receives-right r store x .right) in
-    record { frame = d .frame; handed = d .handed; close = d .close; sum = d .sum; named = d .named; whole = d .whole; stored = d .stored }
+    subst (λ (a : ReceiverAnswer). AsAnswered r store (x .received) (receives r store x) a) e (receives-right r store x .right)
 
 module _ (r : Receiver) (store : List ℕ) (received : Received) (o : Outcome) (object : ℕ) (name : Nof) (f : Frame)
     (sent : Among f (framesByReceiver (o .step))) (accepts : acceptsFile object name f ≡ true) where

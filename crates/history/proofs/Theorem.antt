@@ -23,7 +23,7 @@ use Rattle.receive.specs.declared.ReceiverAnswer.{ReceiverAnswer}
 use Rattle.receive.specs.declared.ReceiverAnswer.the-variants as R
 use Rattle.receive.proofs.Making as RM
 use Rattle.exchange.specs.Lines.{statedSum}
-use Rattle.history.specs.Calls.{acceptsFile, closesFile, Input, provides, receives, framesByProvider, framesByReceiver, Among}
+use Rattle.history.specs.Calls.{acceptsFile, closesFile, Input, provides, receives, framesByProvider, framesByReceiver, Among, ClosedWith}
 use Rattle.history.specs.Events.{Completion, providerCompletes, receiverCompletes, providerCompletion, receiverCompletion, Event, starts, announces, toProvider, toReceiver, State, receiverCalled, announcedFrames, next, stateAfter, Throughout}
 use Rattle.history.specs.Held.{History, initial, reached, AcceptanceSent, CloseSent, Held, NothingFreedUnheld}
 use Rattle.history.proofs.Choosing.{apart}
@@ -104,7 +104,7 @@ module _ (object : ℕ) (name : Nof) (file : List ℕ) where
   module _ (r : Receiver) (store : List ℕ) (received : Received) (o : Outcome) (right : Rec.Right r store received o)
       (still : r .done ≡ true → Rec.Still r store o) (over : Bool) (fs : List Frame) where
     module _ (genuine : (f : Frame) → received ≡ D.Frame f → closesFile (r .ioa) (r .nof) f ≡ true → statedSum f ≡ checksum file) where
-      has : (n : ℕ) → Rec.Finished r store received o n → Has (o .step .receiver) (o .store) n
+      has : (n : ℕ) → ClosedWith r store received n o → Has (o .step .receiver) (o .store) n
       has n d =
           record {
             done = d .done;

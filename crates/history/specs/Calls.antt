@@ -91,25 +91,27 @@ Among x (y ∷ ys) = (x ≡ y) ⊎ Among x ys
 
 -- ---- the Receiver
 
--- what a Receiver that completes and names n octets was handed
-pub record ClosedWith (r : Receiver) (store : List ℕ) (x : Input) (n : ℕ) : Type 0 where
+-- a Receiver that completes and names n octets: what it was handed, and what it leaves
+pub record ClosedWith (r : Receiver) (store : List ℕ) (received : Received) (n : ℕ) (o : Outcome) : Type 0 where
   -- a file close for its file
   pub frame : Frame
-  pub handed : x .received ≡ D.Frame frame
+  pub handed : received ≡ D.Frame frame
   pub close : closesFile (r .ioa) (r .nof) frame ≡ true
   -- whose stated sum is that of the octets that it holds as accepted
   pub sum : checksum (keptOctets r store) ≡ statedSum frame
   -- it names how many they are, and the store has them
   pub named : n ≡ r .kept
   pub whole : r .kept ≤ length store
-  -- the store is as it was
-  pub stored : receives r store x .store ≡ store
+  -- the store is as it was; the record is done and still holds them
+  pub stored : o .store ≡ store
+  pub done : o .step .receiver .done ≡ true
+  pub kept : o .step .receiver .kept ≡ n
 
 -- the Receiver completes only so
 abbrev pub ReceiverCompletesOnly : Type 0
 ReceiverCompletesOnly =
     (r : Receiver) (store : List ℕ) (x : Input) (n : ℕ)
-    → receives r store x .step .answer ≡ R.Complete n → ClosedWith r store x n
+    → receives r store x .step .answer ≡ R.Complete n → ClosedWith r store (x .received) n (receives r store x)
 
 -- it sends an AFQ 1, for whatever file, only where it completes
 abbrev pub ReceiverAcceptsOnly : Type 0
@@ -120,16 +122,17 @@ ReceiverAcceptsOnly =
 
 -- ---- the Provider
 
--- what a Provider that completes was handed: an AFQ 1 for its file
-pub record AcceptedWith (p : Provider) (x : Input) : Type 0 where
+-- a Provider that completes: it was handed an AFQ 1 for its file, and its record is done
+pub record AcceptedWith (p : Provider) (received : Received) (t : ProviderStep) : Type 0 where
   pub frame : Frame
-  pub handed : x .received ≡ D.Frame frame
+  pub handed : received ≡ D.Frame frame
   pub acknowledgement : acceptsFile (p .ioa) (p .nof) frame ≡ true
+  pub done : t .provider .done ≡ true
 
 -- the Provider completes only so
 abbrev pub ProviderCompletesOnly : Type 0
 ProviderCompletesOnly =
-    (p : Provider) (file : List ℕ) (x : Input) → provides p file x .answer ≡ P.Complete → AcceptedWith p x
+    (p : Provider) (file : List ℕ) (x : Input) → provides p file x .answer ≡ P.Complete → AcceptedWith p (x .received) (provides p file x)
 
 -- whatever it sends as a file close, for whatever file, states the lent file's sum
 abbrev pub ProviderClosesOnly : Type 0
