@@ -70,9 +70,11 @@ CloseSent object name s announces = Unit {0}
 CloseSent object name s (toProvider x) = Unit {0}
 CloseSent object name s (toReceiver x) = (f : Frame) → x .received ≡ D.Frame f → closesFile object name f ≡ true → Among f (s .fromProvider)
 
--- the channel forges neither of the two frames
+-- the channel forges neither of the two frames; of all others nothing is assumed
 pub record Unforged (h : History) : Type 0 where
+  -- no AFQ 1 reaches the Provider that the Receiver has not sent
   pub acceptances : Throughout (AcceptanceSent (h .object) (h .name)) (h .file) (initial h) (h .events)
+  -- no file close reaches the Receiver that the Provider has not sent
   pub closes : Throughout (CloseSent (h .object) (h .name)) (h .file) (initial h) (h .events)
 
 -- ---- the conclusion
