@@ -39,7 +39,8 @@ use Rattle.exchange.specs.Exchange.{providerSends}
 use Rattle.exchange.specs.Lines.{statedSum}
 use Rattle.history.specs.Calls.{closesFile, sameFile, Input, provides, framesOf, Among, AcceptedWith, ProviderCompletesOnly, ProviderClosesOnly}
 use Rattle.history.specs.Events.{providerCompletion, announcedFrames}
-use Rattle.history.proofs.Choosing.{by-test, if-so, either, both-so, never}
+use Rattle.laws.proofs.Choices.{by-test, if-so, either}
+use Rattle.history.proofs.Choosing.{both-so, never}
 
 -- ---- what it sends
 

@@ -42,7 +42,8 @@ use Rattle.receive.proofs.Starting.{agrees-held}
 use Rattle.exchange.specs.Lines.{statedSum}
 use Rattle.history.specs.Calls.{acceptsFile, closesFile, sameFile, Input, receives, framesByReceiver, Among, ClosedWith, ReceiverCompletesOnly, ReceiverAcceptsOnly}
 use Rattle.history.specs.Events.{receiverCompletion}
-use Rattle.history.proofs.Choosing.{by-test, if-so, either, both-so, never}
+use Rattle.laws.proofs.Choices.{by-test, if-so, either}
+use Rattle.history.proofs.Choosing.{both-so, never}
 
 -- ---- what a step sends that does not complete
 

@@ -20,7 +20,7 @@ use Rattle.ft.specs.declared.Role.the-variants.{Controlling, Controlled}
 use Rattle.ft.specs.declared.Received.the-variants as D
 use Rattle.provide.specs.Sections.{sectionLength, sectionCount}
 use Rattle.provide.specs.Record.{freshProvider, providerMade, fileAgrees}
-use Rattle.provide.specs.Requests.{after, onAck, isOurs, onRequest, provide}
+use Rattle.provide.specs.Requests.{afterSection, onAck, isOurs, onRequest, provide}
 use Rattle.receive.specs.Record.{freshReceiver, receiverMade, storeAgrees, awaited}
 use Rattle.receive.specs.Answers.{onFileReady, onSectionReady, onFileClose, onClose, receive, toSend}
 use Rattle.exchange.specs.Script.{station}
@@ -70,7 +70,7 @@ forged-close =
 
 -- a file of the octets 128 and 128, whose sum is 0: neither frame is forged, and the Receiver has completed with no octet
 pub sum-alone : OctetsDiffer (worked 128 128 closedUnsent)
-unfolding worked when divCeil afqInRange isMirror within sizesRight maxIoa maxCommonAddress isFileType calledSection oneOf fileAnswered sectionAnswered scAnswered ackAnswered namesAgree answersTo octetSum checksum addressRight settled serves frameAgrees admitFrame onAsdu matched onAnswer sectionLength sectionCount fileAgrees after onAck isOurs onRequest provide storeAgrees awaited onFileReady onSectionReady onFileClose onClose receive toSend
+unfolding worked when divCeil afqInRange isMirror within sizesRight maxIoa maxCommonAddress isFileType calledSection oneOf fileAnswered sectionAnswered scAnswered ackAnswered namesAgree answersTo octetSum checksum addressRight settled serves frameAgrees admitFrame onAsdu matched onAnswer sectionLength sectionCount fileAgrees afterSection onAck isOurs onRequest provide storeAgrees awaited onFileReady onSectionReady onFileClose onClose receive toSend
 sum-alone =
     record {
       unforged =

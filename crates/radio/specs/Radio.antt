@@ -6,6 +6,9 @@ use lib.Dec.{eqb, ltb}
 use lib.ListN.{length}
 use Rattle.laws.specs.When.{when, _and_}
 use Rattle.provide.specs.Sections.{sectionOctets}
+use Rattle.provide.specs.declared.Reply.{Reply}
+use Rattle.provide.specs.declared.ProviderAnswer.{ProviderAnswer}
+use Rattle.exchange.specs.Exchange.{isSection, isSending}
 use Rattle.exchange.specs.Damaging.{raised, namings}
 use Rattle.radio.specs.declared.Radio.{Radio}
 
@@ -31,6 +34,14 @@ nextSection damage r =
 -- after one more sending
 unfoldable pub afterSending : List ℕ → Radio → Radio
 afterSending damage r = when (ltb 0 (r .left)) (record { section = r .section; left = r .left - 1 }) (nextSection damage r)
+
+-- whether the radio hits a reply: only a sending, and where damaged ones are left
+unfoldable pub isDamaged : Radio → Reply → Bool
+isDamaged r reply = isSection reply and ltb 0 (r .left)
+
+-- the sendings to come after the Provider's answer
+abbrev pub afterAnswer : List ℕ → Radio → ProviderAnswer → Radio
+afterAnswer damage r a = when (isSending a) (afterSending damage r) r
 
 -- a segment's payload as it arrives: the first octet of a damaged sending is raised
 unfoldable pub arriving : Bool → ℕ → List ℕ → List ℕ

@@ -1,11 +1,14 @@
 // The radio of a script (document 01, A transfer script): no segment is lost, and the k-th naming of a
 // section raises the first octet of its k-th sending by 1 modulo 256. A section's sendings follow each
 // other, the damaged ones first. What is damaged is lent as a list of section numbers.
+use provide::ProviderAnswer;
+use provide::Reply;
 ghost use mathlib.Core.Path.{_≡_};
 ghost use lib.Dec.{eqb, ltb};
 ghost use Rattle.laws.specs.When.{when};
+ghost use Rattle.exchange.specs.Exchange.{isSection, isSending};
 ghost use Rattle.exchange.specs.Damaging.{namings};
-ghost use Rattle.radio.specs.Radio.{hasOctets, allHaveOctets, firstSection, nextSection, afterSending};
+ghost use Rattle.radio.specs.Radio.{hasOctets, allHaveOctets, firstSection, nextSection, afterSending, isDamaged, afterAnswer};
 
 // The sendings to come: so many damaged ones of this section, then an intact one, then the next section.
 pub struct Radio {
@@ -64,6 +67,32 @@ pub fn all_have_octets(file: &[u8], section_len: u32, damage: &[u8]) -> bool
     true
 }
 
+// Whether a reply is a sending: a section's segments and its close.
+fn is_section(reply: Reply) -> bool
+    ensures { λ r. ⌜ r ≡ isSection reply ⌝ }
+{
+    match reply {
+        Reply::Nothing => false,
+        Reply::FileReady => false,
+        Reply::SectionReady(_) => false,
+        Reply::Section(_) => true,
+        Reply::FileClose(_) => false,
+    }
+}
+
+fn is_sending(answer: ProviderAnswer) -> bool
+    ensures { λ r. ⌜ r ≡ isSending answer ⌝ }
+{
+    match answer {
+        ProviderAnswer::Running(reply) => is_section(reply),
+        ProviderAnswer::Complete => false,
+        ProviderAnswer::Deactivated { .. } => false,
+        ProviderAnswer::FileRejected { .. } => false,
+        ProviderAnswer::Refused { .. } => false,
+        ProviderAnswer::Err(_) => false,
+    }
+}
+
 impl Radio {
     // Before the first sending.
     pub fn first(damage: &[u8]) -> Radio
@@ -110,5 +139,25 @@ impl Radio {
             };
         }
         self.next_section(damage)
+    }
+
+    // Whether the radio hits a reply: only a sending, and where damaged ones are left.
+    pub fn is_damaged(self, reply: Reply) -> bool
+        ensures { λ r. ⌜ r ≡ isDamaged self reply ⌝ }
+    {
+        if is_section(reply) {
+            return self.is_damaging();
+        }
+        false
+    }
+
+    // The sendings to come after the Provider's answer.
+    pub fn after_answer(self, damage: &[u8], answer: ProviderAnswer) -> Radio
+        ensures { λ r. ⌜ r ≡ afterAnswer (now (damage .entry)) self answer ⌝ }
+    {
+        if is_sending(answer) {
+            return self.after_sending(damage);
+        }
+        self
     }
 }

@@ -34,10 +34,9 @@ use Rattle.receive.specs.declared.ReceiverStep.{ReceiverStep}
 use Rattle.receive.specs.declared.ReceiverAnswer.{ReceiverAnswer}
 use Rattle.receive.specs.declared.ReceiverResult.{ReceiverResult}
 use Rattle.receive.specs.declared.ReceiverResult.the-variants as RM
-use Rattle.exchange.specs.Exchange.{isSection, isSending}
 use Rattle.exchange.specs.Stations.{stationWith}
 use Rattle.exchange.specs.declared.Sender.the-variants as S
-use Rattle.radio.specs.Radio.{allHaveOctets, firstSection, afterSending, arriving}
+use Rattle.radio.specs.Radio.{allHaveOctets, firstSection, isDamaged, afterAnswer, arriving}
 use Rattle.radio.specs.declared.Radio.{Radio}
 use Rattle.twoparty.specs.declared.Settings.{Settings}
 use Rattle.twoparty.specs.declared.Queue.{Queue}
@@ -109,10 +108,6 @@ still t store = record { party = t; store = store }
 abbrev pub headerBy : FileTransferProcedure → Frame → Header
 headerBy s f = headerOf (s .ca) (s .org) f
 
--- whether the radio hits a reply: only a sending, and where damaged ones are left
-unfoldable pub isDamaged : Radio → Reply → Bool
-isDamaged r reply = isSection reply and ltb 0 (r .left)
-
 -- what the Provider's answer puts into the queue
 abbrev pub replied : Radio → ProviderAnswer → Queue
 replied r (P.Running reply) = Q.Provider reply 0 (isDamaged r reply)
@@ -121,10 +116,6 @@ replied r (P.Deactivated scq) = Q.Empty
 replied r (P.FileRejected afq) = Q.Empty
 replied r (P.Refused cause mirror) = Q.Empty
 replied r (P.Err e) = Q.Empty
-
--- the sendings to come after the Provider's answer
-abbrev pub afterAnswer : List ℕ → Radio → ProviderAnswer → Radio
-afterAnswer damage r a = when (isSending a) (afterSending damage r) r
 
 -- the Provider has answered
 abbrev pub afterProvider : TwoParty → List ℕ → ProviderStep → TwoParty

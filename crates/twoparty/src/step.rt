@@ -10,7 +10,6 @@ use asdu::Header;
 use asdu::UnknownField;
 use exchange::Sender;
 use frame::Frame;
-use ft::FileTransferProcedure;
 use ft::Received;
 use ft::build;
 use provide::FrameResult;
@@ -32,51 +31,7 @@ ghost use Rattle.provide.specs.Replies.{replyFrame, replyPayload, payloadOf};
 ghost use Rattle.provide.specs.declared.FrameResult.the-variants as F;
 ghost use Rattle.receive.specs.Answers.{receive};
 ghost use Rattle.exchange.specs.Damaging.{raised};
-ghost use Rattle.exchange.specs.Exchange.{isSection, isSending};
-ghost use Rattle.twoparty.specs.Party.{afterAnswer, fromReply, first, nextFrame, headerBy, isDamaged, replied, afterProvider, toProvider, heard, toReceiver, advanced, partyStepped};
-
-// The header of a station's own frame.
-fn header_by(station: FileTransferProcedure, frame: Frame) -> Header
-    ensures { λ r. ⌜ r ≡ headerBy station frame ⌝ }
-{
-    build::header_of(station.ca, station.org, frame)
-}
-
-// Whether a reply is a sending: a section's segments and its close.
-fn is_section(reply: Reply) -> bool
-    ensures { λ r. ⌜ r ≡ isSection reply ⌝ }
-{
-    match reply {
-        Reply::Nothing => false,
-        Reply::FileReady => false,
-        Reply::SectionReady(_) => false,
-        Reply::Section(_) => true,
-        Reply::FileClose(_) => false,
-    }
-}
-
-fn is_sending(answer: ProviderAnswer) -> bool
-    ensures { λ r. ⌜ r ≡ isSending answer ⌝ }
-{
-    match answer {
-        ProviderAnswer::Running(reply) => is_section(reply),
-        ProviderAnswer::Complete => false,
-        ProviderAnswer::Deactivated { .. } => false,
-        ProviderAnswer::FileRejected { .. } => false,
-        ProviderAnswer::Refused { .. } => false,
-        ProviderAnswer::Err(_) => false,
-    }
-}
-
-// Whether the radio hits a reply: only a sending, and where damaged ones are left.
-fn is_damaged(radio: Radio, reply: Reply) -> bool
-    ensures { λ r. ⌜ r ≡ isDamaged radio reply ⌝ }
-{
-    if is_section(reply) {
-        return radio.is_damaging();
-    }
-    false
-}
+ghost use Rattle.twoparty.specs.Party.{fromReply, first, nextFrame, replied, afterProvider, toProvider, heard, toReceiver, advanced, partyStepped};
 
 // What the Provider's answer puts into the queue.
 fn replied(radio: Radio, answer: ProviderAnswer) -> Queue
@@ -86,7 +41,7 @@ fn replied(radio: Radio, answer: ProviderAnswer) -> Queue
         ProviderAnswer::Running(reply) => Queue::Provider {
             reply,
             next: 0,
-            damaged: is_damaged(radio, reply),
+            damaged: radio.is_damaged(reply),
         },
         ProviderAnswer::Complete => Queue::Empty,
         ProviderAnswer::Deactivated { .. } => Queue::Empty,
@@ -140,16 +95,6 @@ fn hand_over(
     receiver.on_asdu(store, header, UnknownField::Nothing, received, &copy[0..n])
 }
 
-// The sendings to come after the Provider's answer.
-fn after_answer(radio: Radio, damage: &[u8], answer: ProviderAnswer) -> Radio
-    ensures { λ r. ⌜ r ≡ afterAnswer (now (damage .entry)) radio answer ⌝ }
-{
-    if is_sending(answer) {
-        return radio.after_sending(damage);
-    }
-    radio
-}
-
 impl TwoParty {
     // The queue's first frame.
     fn first(self, file: &[u8]) -> NextFrame
@@ -192,7 +137,7 @@ impl TwoParty {
         let receiver = self.receiver;
         let before = self.radio;
         let queue = replied(before, answer);
-        let radio = after_answer(before, damage, answer);
+        let radio = before.after_answer(damage, answer);
         TwoParty {
             provider,
             receiver,
@@ -207,9 +152,8 @@ impl TwoParty {
     {
         let provider = self.provider;
         let receiver = self.receiver;
-        let procedure = receiver.procedure;
         let frame = receiver.awaited();
-        let header = header_by(procedure, frame);
+        let header = build::header_of(receiver.procedure.ca, receiver.procedure.org, frame);
         let received = Received::Frame(frame);
         let step = provider.on_asdu(file, header, UnknownField::Nothing, received, &[]);
         self.after_provider(damage, step)
@@ -248,9 +192,8 @@ impl TwoParty {
     {
         let provider = self.provider;
         let receiver = self.receiver;
-        let procedure = provider.procedure;
         let payload = payload_of(provider, file, reply, next);
-        let header = header_by(procedure, frame);
+        let header = build::header_of(provider.procedure.ca, provider.procedure.org, frame);
         let hit = noise::is_hit(damaged, next);
         let step = hand_over(receiver, store, header, frame, payload, hit);
         let rest = Queue::Provider {

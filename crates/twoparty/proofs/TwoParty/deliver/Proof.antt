@@ -15,7 +15,7 @@ deliver-spec =
     (λ c κs. search needs)
     (λ c κs.
     let p = c .before .before .before in
-    let a = p .before .before .before .before .before .before .args in
+    let a = p .before .before .before .before .before .args in
     rw (p .payload-of .ensures) (payload-short (a .self .provider) (now (a .file)) (a .reply) (a .next)))
     (λ c. search needs)
     (λ c κs. search needs)
@@ -24,7 +24,7 @@ deliver-spec =
     let s = c .before .before .before in
     let t = s .before .before in
     let p = t .before .before in (
-      simp (← (t .is-hit .ensures), ← (t .before .header-by .ensures), ← (p .payload-of .ensures))
+      simp (← (t .is-hit .ensures), ← (t .before .header-of .ensures), ← (p .payload-of .ensures))
           (simp (← (s .hand-over .ensures .0)) (c .after-receiver .ensures)),
-      simp (← (t .is-hit .ensures), ← (t .before .header-by .ensures), ← (p .payload-of .ensures)) (s .hand-over .ensures .1),
+      simp (← (t .is-hit .ensures), ← (t .before .header-of .ensures), ← (p .payload-of .ensures)) (s .hand-over .ensures .1),
     )))

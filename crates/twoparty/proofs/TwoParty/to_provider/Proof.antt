@@ -13,4 +13,4 @@ to-provider-spec =
     (λ c κs. search needs)
     (λ c.
     simp (← (c .before .before .before .before .awaited .ensures))
-    (simp (← (c .before .before .before .header-by .ensures)) (simp (← (c .before .on-asdu .ensures), ← (c .after-provider .ensures))))))
+    (simp (← (c .before .before .before .header-of .ensures)) (simp (← (c .before .on-asdu .ensures), ← (c .after-provider .ensures))))))

@@ -1,7 +1,7 @@
 use borrow.Author.Needs.{needs}
 use Rattle.laws.proofs.Decide.{whens, yes, nay}
-use Rattle.twoparty.proofs.step.after_answer.Statement.{statement}
-use Rattle.twoparty.proofs.step.after_answer.Tie as tie
+use Rattle.radio.proofs.Radio.after_answer.Statement.{statement}
+use Rattle.radio.proofs.Radio.after_answer.Tie as tie
 
 pub after-answer-spec : {M : Type 1} → statement M
 after-answer-spec =

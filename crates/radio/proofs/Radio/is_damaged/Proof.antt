@@ -1,8 +1,8 @@
 use Rattle.laws.proofs.Decide.{whens, yes, nay}
 use borrow.Author.Needs.{needs}
-use Rattle.twoparty.specs.Party.{isDamaged}
-use Rattle.twoparty.proofs.step.is_damaged.Statement.{statement}
-use Rattle.twoparty.proofs.step.is_damaged.Tie as tie
+use Rattle.radio.specs.Radio.{isDamaged}
+use Rattle.radio.proofs.Radio.is_damaged.Statement.{statement}
+use Rattle.radio.proofs.Radio.is_damaged.Tie as tie
 
 pub is-damaged-spec : {M : Type 1} → statement M
 unfolding isDamaged
