@@ -1,0 +1,99 @@
+-- Entries written into a store one after the other, and the last-file flag read at a place.
+use Prim.Native.Nat.{ℕ, zero, suc, _+_, _-_, _*_, _/_, _≤_, _<_}
+use mathlib.Core.Path.{_≡_, refl, sym, ap, subst, _∙_}
+use mathlib.Core.Bool.{Bool}
+use mathlib.Core.List.{List, [], _∷_, _++_, append-assoc, append-nil}
+use native.Mathlib.Nat.{add-assoc, add-zero, zero-add, suc-add}
+use native.Mathlib.Omega.{arith}
+use native.Mathlib.Decide.{decLe}
+use lib.Dec.{leb}
+use lib.ListN.{length, take, drop, getD, length-append, length-take, length-drop, take-append-drop}
+use lib.Seq.{take-append-seam, take-append-add, drop-append-add, length-take-le, drop-drop, getD-take, getD-drop}
+use borrow.Author.Tests.{le-leb, lt-leb}
+use Rattle.laws.specs.When.{_or_}
+use Rattle.store.specs.Store.{written}
+use Rattle.asdu.specs.Entry.{bitOf, sofOf, entryOf, entryAddress}
+use Rattle.directory.specs.Stored.{anyLast, addressOctets, storedEntry, storedFrom}
+
+-- so many entries of 17 octets are within a length, told by whole entries
+pub seventeens : (n len : ℕ) → leb n (len / 17) ≡ leb (17 * n) len
+seventeens n len = by-test (decLe n (len / 17))
+  where
+    by-test : Dec (n ≤ len / 17) → leb n (len / 17) ≡ leb (17 * n) len
+    by-test (yes h) = let g : 17 * n ≤ len = omega arith in le-leb _ _ h ∙ sym (le-leb _ _ g)
+    by-test (no h) =
+        let f : len / 17 < n = omega arith in
+        let g : len < 17 * n = omega arith in
+        lt-leb _ _ f ∙ sym (lt-leb _ _ g)
+
+-- ---- writing twice
+
+take-both : (x a r : List ℕ) (p : ℕ) → length x ≡ p → take (p + length a) (x ++ (a ++ r)) ≡ x ++ a
+take-both x a r p e =
+    subst (λ (k : ℕ). take (k + length a) (x ++ (a ++ r)) ≡ x ++ a) e
+    (take-append-add x (a ++ r) (length a) ∙ ap (λ (y : List ℕ). x ++ y) (take-append-seam a r))
+
+drop-both : (x a r : List ℕ) (p n : ℕ) → length x ≡ p → drop (p + length a + n) (x ++ (a ++ r)) ≡ drop n r
+drop-both x a r p n e =
+    subst (λ (k : ℕ). drop (k + length a + n) (x ++ (a ++ r)) ≡ drop n r) e (rw (add-assoc, drop-append-add, drop-append-add))
+
+-- octets written behind others that were written are written with them
+pub written-twice : (s : List ℕ) (p : ℕ) (a b : List ℕ) → p + length a ≤ length s → written (written s p a) (p + length a) b ≡ written s p (a ++ b)
+unfolding written
+written-twice s p a b h =
+    let front : length (take p s) ≡ p = length-take-le p s (omega arith) in
+    let place : p + length a + length b ≡ p + length (a ++ b) = rw length-append (omega arith) in
+    let before : take (p + length a) (written s p a) ≡ take p s ++ a = take-both (take p s) a (drop (p + length a) s) p front in
+    let after : drop (p + length a + length b) (written s p a) ≡ drop (p + length (a ++ b)) s =
+    drop-both (take p s) a (drop (p + length a) s) p (length b) front ∙ drop-drop (length b) (p + length a) s ∙ ap (λ (k : ℕ). drop k s) place in
+    simp (before, after, append-assoc)
+
+pub written-none : (s : List ℕ) (p : ℕ) → written s p [] ≡ s
+unfolding written
+written-none s p = rw add-zero (take-append-drop p s)
+
+pub written-long : (s : List ℕ) (p : ℕ) (o : List ℕ) → p + length o ≤ length s → length (written s p o) ≡ length s
+unfolding written
+written-long s p o h = simp (length-append, length-take, length-drop) (omega arith)
+
+-- ---- entries in the store
+
+pub stored-split : (m n k base : ℕ) (o : List ℕ)
+    → storedFrom (m + n) k base o ≡ storedFrom m k base o ++ storedFrom n (k + m) base (drop (13 * m) o)
+stored-split zero n k base o = rw (zero-add, add-zero)
+stored-split (suc m) n k base o =
+    let number : suc k + m ≡ k + suc m = omega arith in
+    let place : 13 + 13 * m ≡ 13 * suc m = omega arith in
+    rw (suc-add, stored-split m n (suc k) base (drop 13 o), drop-drop (13 * m) 13 o, place, number, append-assoc)
+
+pub entry-long : (a : ℕ) (e : List ℕ) → length (storedEntry a e) ≡ 4 + length e
+unfolding storedEntry addressOctets
+entry-long a e = omega arith
+
+pub stored-long : (n k base : ℕ) (o : List ℕ) → 13 * n ≤ length o → length (storedFrom n k base o) ≡ 17 * n
+stored-long zero k base o h = refl
+stored-long (suc n) k base o h =
+    let first : length (take 13 o) ≡ 13 = length-take-le 13 o (omega arith) in
+    let rest : length (storedFrom n (suc k) base (drop 13 o)) ≡ 17 * n = stored-long n (suc k) base (drop 13 o) (rw length-drop (omega arith)) in
+    rw (length-append, entry-long, first, rest) (omega arith)
+
+-- one entry more
+pub page-next : (s o : List ℕ) (place ioa i : ℕ) → place + 17 * (i + 1) ≤ length s → 13 * (i + 1) ≤ length o
+    → written (written s place (storedFrom i 0 ioa o)) (place + 17 * i) (storedEntry (entryAddress ioa i) (take 13 (drop (13 * i) o)))
+    ≡ written s place (storedFrom (i + 1) 0 ioa o)
+page-next s o place ioa i room whole =
+    let long : length (storedFrom i 0 ioa o) ≡ 17 * i = stored-long i 0 ioa o (omega arith) in
+    let all : storedFrom (i + 1) 0 ioa o ≡ storedFrom i 0 ioa o ++ storedEntry (entryAddress ioa i) (take 13 (drop (13 * i) o)) =
+    stored-split i 1 0 ioa o ∙ rw (zero-add, append-nil) in
+    rw (all, ← long) (written-twice s place (storedFrom i 0 ioa o) (storedEntry (entryAddress ioa i) (take 13 (drop (13 * i) o))) (omega arith))
+
+-- ---- the last-file flag
+
+-- one entry, and those after it
+pub last-next : (o : List ℕ) (at n : ℕ) → 0 < n
+    → anyLast n (drop at o) ≡ (bitOf 32 (getD o (at + 5) 0) or anyLast (n - 1) (drop (at + 13) o))
+unfolding entryOf sofOf
+last-next o at zero h = absurd (omega arith)
+last-next o at (suc n) h =
+    let e : suc n - 1 ≡ n = omega arith in
+    rw (getD-take 13 (drop at o) 5 0 (omega arith), getD-drop at o 5 0, drop-drop 13 at o, e)

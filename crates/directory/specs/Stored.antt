@@ -1,0 +1,36 @@
+-- The entries of a directory page, packed in 13 octets each, and how they stand in a store, in 17 (document 01, The directory).
+use Prim.Native.Nat.{ℕ, zero, suc, _+_, _/_, _%_}
+use mathlib.Core.Bool.{Bool, false}
+use mathlib.Core.List.{List, [], _∷_, _++_}
+use lib.ListN.{length, take, drop}
+use Rattle.laws.specs.When.{_or_}
+use Rattle.asdu.specs.Entry.{entryOf, entryAddress}
+
+-- how many entries a page has
+unfoldable pub entriesIn : List ℕ → ℕ
+entriesIn o = length o / 13
+
+-- whether one of the first n has the last-file flag
+abbrev pub anyLast : ℕ → List ℕ → Bool
+anyLast zero o = false
+anyLast (suc n) o = entryOf (take 13 o) .sof .«last_file_of_directory» or anyLast n (drop 13 o)
+
+unfoldable pub hasLast : List ℕ → Bool
+hasLast o = anyLast (entriesIn o) o
+
+-- an address in four octets, the lowest first
+unfoldable pub addressOctets : ℕ → List ℕ
+addressOctets a = a % 256 ∷ a / 256 % 256 ∷ a / 65536 % 256 ∷ a / 16777216 ∷ []
+
+-- an entry in the store: its address, then its packed octets
+unfoldable pub storedEntry : ℕ → List ℕ → List ℕ
+storedEntry a e = addressOctets a ++ e
+
+-- the first n entries of a list, of which the first is the k-th after the address `base`
+abbrev pub storedFrom : ℕ → ℕ → ℕ → List ℕ → List ℕ
+storedFrom zero k base o = []
+storedFrom (suc n) k base o = storedEntry (entryAddress base k) (take 13 o) ++ storedFrom n (suc k) base (drop 13 o)
+
+-- a page's entries in the store, their addresses rising from the page's
+unfoldable pub pageStored : ℕ → List ℕ → List ℕ
+pageStored ioa o = storedFrom (entriesIn o) 0 ioa o
