@@ -1,4 +1,6 @@
 // The lines of a list: each is played as it is read.
+use directory_calls::calling;
+use directory_calls::paging;
 use frame_calls::elements;
 use frame_calls::frames;
 use frame_calls::making;
@@ -60,6 +62,21 @@ fn is_of_records(
     receiving::call(line, regs, &mut args, store, octets)
 }
 
+// Calls of the directory, over the file as packed entries and over the store.
+fn is_of_directory(
+    line: &[u8],
+    regs: &mut Numbers,
+    file: &[u8],
+    store: &mut Octets,
+    octets: &mut Octets,
+) -> bool {
+    let mut args = [0u64; 128];
+    if paging::call(line, &mut args, file, octets) {
+        return true;
+    }
+    calling::call(line, regs, &mut args, store, octets)
+}
+
 // Calls of what is kept, over the used parts of file and damage.
 fn is_of_kept(
     line: &[u8],
@@ -72,6 +89,9 @@ fn is_of_kept(
     let octets_of_file = text::front(file, at(regs, kept::FILE, 0));
     let sections = text::front(damage, at(regs, kept::DAMAGE, 0));
     if is_of_records(line, regs, octets_of_file, store, octets) {
+        return true;
+    }
+    if is_of_directory(line, regs, octets_of_file, store, octets) {
         return true;
     }
     party_calls::call(line, regs, octets_of_file, sections, store, octets)
