@@ -1,2 +1,4 @@
 pub mod StoredLaws
 pub mod Agreement
+pub mod Collected
+pub mod Reading

@@ -1,6 +1,6 @@
 -- What a call of a directory makes of a received frame, with the store after it (document 01, The directory and both Refused sections).
 use Prim.Native.Nat.{ℕ, _+_, _*_}
-use mathlib.Core.Bool.{Bool, true, false}
+use mathlib.Core.Bool.{true}
 use mathlib.Core.List.{List}
 use lib.Dec.{leb}
 use lib.ListN.{length}

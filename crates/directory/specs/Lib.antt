@@ -1,3 +1,4 @@
 pub mod Record
 pub mod Stored
 pub mod Collecting
+pub mod Handed

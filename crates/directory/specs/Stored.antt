@@ -1,10 +1,11 @@
 -- The entries of a directory page, packed in 13 octets each, and how they stand in a store, in 17 (document 01, The directory).
-use Prim.Native.Nat.{ℕ, zero, suc, _+_, _/_, _%_}
+use Prim.Native.Nat.{ℕ, zero, suc, _+_, _*_, _/_, _%_}
 use mathlib.Core.Bool.{Bool, false}
 use mathlib.Core.List.{List, [], _∷_, _++_}
-use lib.ListN.{length, take, drop}
+use lib.ListN.{length, take, drop, getD}
 use Rattle.laws.specs.When.{_or_}
-use Rattle.asdu.specs.Entry.{entryOf, entryAddress}
+use Rattle.asdu.specs.Entry.{entryOf, unpacked, entryAddress}
+use Rattle.asdu.specs.declared.EntryResult.{EntryResult}
 
 -- how many entries a page has
 unfoldable pub entriesIn : List ℕ → ℕ
@@ -34,3 +35,17 @@ storedFrom (suc n) k base o = storedEntry (entryAddress base k) (take 13 o) ++ s
 -- a page's entries in the store, their addresses rising from the page's
 unfoldable pub pageStored : ℕ → List ℕ → List ℕ
 pageStored ioa o = storedFrom (entriesIn o) 0 ioa o
+
+-- ---- for those who read the store
+
+-- the octets of entry k
+unfoldable pub octetsAt : ℕ → List ℕ → List ℕ
+octetsAt k store = take 17 (drop (17 * k) store)
+
+-- the address that they begin with
+unfoldable pub addressIn : List ℕ → ℕ
+addressIn s = getD s 0 0 + 256 * getD s 1 0 + 65536 * getD s 2 0 + 16777216 * getD s 3 0
+
+-- the entry behind it
+unfoldable pub entryIn : List ℕ → EntryResult
+entryIn s = unpacked (drop 4 s)

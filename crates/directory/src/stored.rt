@@ -3,7 +3,6 @@
 use asdu::DirectoryEntry;
 use asdu::entry::entry_address;
 ghost use mathlib.Core.Path.{_≡_};
-ghost use mathlib.Core.List.{_++_};
 ghost use Prim.Native.Nat.{_+_, _*_, _/_, _≤_};
 ghost use lib.ListN.{length};
 ghost use Rattle.store.specs.Store.{written};

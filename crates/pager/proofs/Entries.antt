@@ -1,17 +1,16 @@
 -- Entries in a list of them: each is in range where all are, and a page starts within the list.
 use Prim.Native.Nat.{ℕ, zero, suc, _+_, _-_, _*_, _/_, _%_, _≤_, _<_}
-use mathlib.Core.Path.{_≡_, refl, sym, ap, _∙_}
+use mathlib.Core.Path.{_≡_, refl}
 use mathlib.Core.Bool.{Bool, true, false}
 use mathlib.Core.List.{List}
 use native.Mathlib.Omega.{arith}
 use lib.Dec.{eqb}
 use lib.ListN.{length, take, drop, length-take, length-drop}
 use lib.Seq.{drop-drop, take-all}
-use borrow.Author.Tests.{eq-eqb, eqb-true}
+use borrow.Author.Tests.{eqb-true}
 use Rattle.laws.specs.When.{when, _and_}
 use Rattle.laws.proofs.Decide.{whens}
-use Rattle.lists.specs.Parts.{divCeil}
-use Rattle.lists.proofs.Parts.{ceil-least}
+use Rattle.lists.proofs.Parts.{ceil-enough, ceil-least}
 use Rattle.asdu.specs.Sizes.{within}
 use Rattle.asdu.specs.Entry.{entryOf, reservedClear, unpacked, allClear, pageRight}
 use Rattle.asdu.specs.declared.EntryResult.the-variants.{Ok}
@@ -27,6 +26,18 @@ page-starts o i h = omega (arith, ceil-least (length o / 13) 18 (omega arith))
 pub entry-within : (o : List ℕ) (i j : ℕ) → j < entryCount o i → i * 18 + j < entriesOf o
 unfolding entryCount
 entry-within o i j h = omega arith
+
+-- every page but the last is full, and the last has the rest
+pub page-full : (o : List ℕ) (i : ℕ) → suc i < pageCount o → (entryCount o i ≡ 18) × (i * 18 + 18 < entriesOf o)
+unfolding entryCount entriesOf
+page-full o i h = let starts = page-starts o (suc i) h in (omega arith, omega arith)
+
+pub page-ends : (o : List ℕ) (i : ℕ) → suc i ≡ pageCount o → i * 18 + entryCount o i ≡ entriesOf o
+unfolding entryCount pageCount
+page-ends o i h =
+    let starts = ceil-least (entriesOf o) 18 (omega arith) in
+    let enough : entriesOf o ≤ suc i * 18 = rw h (ceil-enough (entriesOf o) 18 (omega arith)) in
+    omega arith
 
 -- ---- one entry and those after it
 

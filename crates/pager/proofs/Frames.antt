@@ -4,7 +4,7 @@ use mathlib.Core.Path.{_≡_, refl}
 use mathlib.Core.Bool.{Bool, true, false}
 use mathlib.Core.List.{List}
 use native.Mathlib.Omega.{arith}
-use lib.ListN.{length, getD}
+use lib.ListN.{getD}
 use borrow.Author.Tests.{le-leb}
 use Rattle.laws.specs.When.{when, _or_}
 use Rattle.laws.proofs.Decide.{whens}
@@ -12,8 +12,6 @@ use Rattle.asdu.specs.Sizes.{sizesRight, maxIoa}
 use Rattle.asdu.specs.Entry.{entryAddress}
 use Rattle.asdu.specs.declared.AddressSizes.{AddressSizes}
 use Rattle.asdu.proofs.Range.{both}
-use Rattle.frame.specs.declared.Frame.{Frame}
-use Rattle.frame.specs.declared.Frame.the-variants as F
 use Rattle.frame.specs.Frames.{lastIoa}
 use Rattle.frame.specs.Ranges.{directoryCause, directoryInRange, valuesInRange}
 use Rattle.ft.specs.Directions.{directionFor, usesDirection, usesFunction}
@@ -25,12 +23,8 @@ use Rattle.ft.specs.declared.Role.the-variants.{Controlling, Controlled}
 use Rattle.ft.specs.declared.Selection.{Selection}
 use Rattle.ft.specs.declared.FileTransferProcedure.{FileTransferProcedure}
 use Rattle.ft.specs.declared.AsduResult.the-variants.{Ok}
-use Rattle.pager.specs.Pages.{entriesRight, pageCount, entryCount, pageAddress, pageOctets}
+use Rattle.pager.specs.Pages.{entriesRight, pageCount, entryCount, pageAddress, pageOctets, pageFrame}
 use Rattle.pager.proofs.Sent.{sent-long, entries-of-page, page-right}
-
--- the frame of page i, as the answer to a call
-abbrev pub pageFrame : ℕ → ℕ → Frame
-pageFrame ioa i = F.Directory (pageAddress ioa i) (record { value = 5 })
 
 -- a station that uses a direction uses the function
 uses-either : (m c : Bool) (r : Role) → usesDirection (record { monitor = m; control = c }) (directionFor r false) ≡ true → (m or c) ≡ true

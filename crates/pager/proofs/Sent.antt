@@ -8,7 +8,7 @@ use lib.Dec.{eqb, lit<}
 use lib.ListN.{length, take, drop, getD, length-append}
 use lib.Seq.{getD-drop, take-at, drop-at}
 use borrow.Author.Tests.{le-leb}
-use Rattle.laws.specs.When.{when, _and_}
+use Rattle.laws.specs.When.{_and_}
 use Rattle.laws.proofs.Decide.{whens}
 use Rattle.asdu.specs.Sizes.{within}
 use Rattle.asdu.specs.Entry.{entryInRange, entryOctets, entryOf, reservedClear, unpacked, allClear, pageRight}
@@ -52,6 +52,20 @@ module _ (o : List ℕ) (right : entriesRight o ≡ true) (small : (i : ℕ) →
       flagged-range _ (entryOf (packedEntry o k))
       ∙ pack-unpack (packedEntry o k) (entryOf (packedEntry o k)) (small-part o small (13 * k) 13) (packed-unpacks o right k h) .1
 
+  pub sent-unpacks : (k : ℕ) → k < entriesOf o → unpacked (entryOctets (sentEntry o k)) ≡ Ok (sentEntry o k)
+  sent-unpacks k h = unpack-pack (sentEntry o k) (sent-range k h)
+
+  sent-is-clear : (k : ℕ) → k < entriesOf o → reservedClear (entryOctets (sentEntry o k)) ≡ true
+  sent-is-clear k h = clear-where (entryOctets (sentEntry o k)) (sentEntry o k) (sent-unpacks k h)
+
+  -- each comes back from its octets
+  pub sent-back : (k : ℕ) → k < entriesOf o → entryOf (entryOctets (sentEntry o k)) ≡ sentEntry o k
+  unfolding unpacked
+  sent-back k h =
+      let e = sentEntry o k in
+      let same : Ok (entryOf (entryOctets e)) ≡ Ok e = simp (thirteen e, sent-is-clear k h, whens) at (sent-unpacks k h) in
+      cc
+
   -- packed and joined
   pub sent-long : (n k : ℕ) → length (sentOctets o n k) ≡ 13 * n
   sent-long zero k = refl
@@ -66,8 +80,7 @@ module _ (o : List ℕ) (right : entriesRight o ≡ true) (small : (i : ℕ) →
   pub sent-clear : (n k : ℕ) → k + n ≤ entriesOf o → allClear n (sentOctets o n k) ≡ true
   sent-clear zero k h = refl
   sent-clear (suc n) k h =
-      let e = sentEntry o k in
-      simp (sent-first n k, sent-rest n k, clear-where (entryOctets e) e (unpack-pack e (sent-range k (omega arith))), whens, sent-clear n (suc k) (omega arith))
+      simp (sent-first n k, sent-rest n k, sent-is-clear k (omega arith), whens, sent-clear n (suc k) (omega arith))
 
   -- a page has 1 to 18 entries, all of the list
   pub entries-of-page : (i : ℕ) → i < pageCount o → (1 ≤ entryCount o i) × (entryCount o i ≤ 18) × (i * 18 + entryCount o i ≤ entriesOf o)

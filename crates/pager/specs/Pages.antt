@@ -4,13 +4,15 @@ use mathlib.Core.Bool.{Bool}
 use mathlib.Core.List.{List, [], _++_}
 use lib.Dec.{eqb, leb}
 use lib.ListN.{length, take, drop}
-use Rattle.laws.specs.When.{unless, when, _and_, _or_}
+use Rattle.laws.specs.When.{unless, when, _and_}
 use Rattle.lists.specs.Parts.{divCeil}
 use Rattle.asdu.specs.Entry.{entryOf, entryOctets, allClear, entryAddress}
 use Rattle.asdu.specs.declared.DirectoryEntry.{DirectoryEntry}
 use Rattle.asdu.specs.declared.FtError.the-variants as E
 use Rattle.asdu.specs.declared.EntryResult.{EntryResult}
 use Rattle.asdu.specs.declared.EntryResult.the-variants as U
+use Rattle.frame.specs.declared.Frame.{Frame}
+use Rattle.frame.specs.declared.Frame.the-variants.{Directory}
 use Rattle.pager.specs.declared.PagesResult.{PagesResult}
 use Rattle.pager.specs.declared.PagesResult.the-variants as N
 use Rattle.pager.specs.declared.PageResult.{PageResult}
@@ -74,6 +76,10 @@ sentOctets o (suc n) k = entryOctets (sentEntry o k) ++ sentOctets o n (suc k)
 -- what stands beside the frame of page i
 unfoldable pub pageOctets : List ℕ → ℕ → List ℕ
 pageOctets o i = sentOctets o (entryCount o i) (i * 18)
+
+-- the frame of page i, as the answer to a call: cause 5
+abbrev pub pageFrame : ℕ → ℕ → Frame
+pageFrame ioa i = Directory (pageAddress ioa i) (record { value = 5 })
 
 -- ---- what the pager answers: 4, then 9
 

@@ -1,8 +1,7 @@
-use Prim.Native.Nat.{_+_, _-_, _*_, _<_}
+use Prim.Native.Nat.{_+_, _-_, _*_}
 use mathlib.Core.Path.{_≡_}
 use native.Mathlib.Omega.{arith}
 use borrow.Author.Needs.{needs}
-use lib.ListN.{length}
 use Rattle.pager.specs.Pages.{entriesOf, packedEntry, sentEntry}
 use Rattle.pager.proofs.Entries.{whole-entries, packed-unpacks}
 use Rattle.pager.proofs.sent_entry.Statement.{statement}

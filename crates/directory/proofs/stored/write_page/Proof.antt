@@ -3,7 +3,7 @@ use Prim.Native.Nat.{_+_, _-_, _*_, _/_, _≤_}
 use mathlib.Core.Path.{_≡_, refl, sym, _∙_}
 use native.Mathlib.Omega.{arith}
 use borrow.Author.Needs.{needs}
-use lib.ListN.{length, take, drop, length-take, length-drop}
+use lib.ListN.{length, length-take, length-drop}
 use Rattle.store.specs.Store.{written}
 use Rattle.directory.specs.Stored.{entriesIn, storedFrom, pageStored}
 use Rattle.directory.proofs.StoredLaws.{written-none, written-long, stored-long, page-next}
