@@ -1,6 +1,6 @@
 -- What a call of a directory makes of a received frame, with the store after it (document 01, The directory and both Refused sections).
 use Prim.Native.Nat.{ℕ, _+_, _*_}
-use mathlib.Core.Bool.{true}
+use mathlib.Core.Bool.{Bool, true, false}
 use mathlib.Core.List.{List}
 use lib.Dec.{leb}
 use lib.ListN.{length}
@@ -94,3 +94,10 @@ collect c store h unknown received beside =
     (unless (c .started) (leaving store (stepped c Running))
     (when (c .done) (leaving store (stepped c Running))
     (collectAdmitted c store beside (taken received) (onAsdu (c .procedure) h unknown received beside))))
+
+-- whether an answer is a numbered refusal
+abbrev pub isRefusal : DirectoryAnswer → Bool
+isRefusal Running = false
+isRefusal (Complete n) = false
+isRefusal (Refused cause mirror) = false
+isRefusal (Err e) = true
