@@ -10,8 +10,7 @@ use asdu::sizes;
 use counts::least;
 ghost use mathlib.Core.Path.{_≡_};
 ghost use mathlib.Core.Bool.{true};
-ghost use Prim.Native.Nat.{_+_, _*_, _/_, _<_};
-ghost use lib.ListN.{length};
+ghost use Prim.Native.Nat.{_<_};
 ghost use Rattle.pager.specs.Pages.{entriesRight, entriesOf, pageCount, entryCount, pagesAnswer, pageAnswer, flagged, flaggedAnswer, sentEntry, entryAnswer};
 ghost use Rattle.asdu.specs.declared.EntryResult.the-variants.{Ok};
 
