@@ -4,8 +4,11 @@ use crate::kept::PARTY_RECEIVER;
 use crate::kept::RECEIVER;
 use asdu::Chs;
 use asdu::Frq;
+use asdu::Header;
 use asdu::Nos;
 use asdu::Srq;
+use asdu::UnknownField;
+use ft::Received;
 use receive::Length;
 use receive::Receiver;
 use receive::ReceiverAnswer;
@@ -153,20 +156,39 @@ fn start(regs: &mut Numbers, store: &[u8]) {
     stepped(regs, receiver.start(store));
 }
 
+// The step of a frame, by the entry that the call names: by value, or in the caller's record itself.
+fn entered(
+    which: u8,
+    receiver: Receiver,
+    store: &mut [u8],
+    header: Header,
+    unknown: UnknownField,
+    came: Received,
+    octets: &[u8],
+) -> ReceiverStep {
+    if which == 16 {
+        return receiver.on_asdu(store, header, unknown, came, octets);
+    }
+    mut_calls::on_asdu(receiver, store, header, unknown, came, octets)
+}
+
 // A frame comes in, over the used part of the store.
-fn on_asdu(regs: &mut Numbers, store: &mut [u8], args: &Numbers, octets: &[u8]) {
+fn on_asdu(which: u8, regs: &mut Numbers, store: &mut [u8], args: &Numbers, octets: &[u8]) {
     let receiver = kept::receiver(regs, RECEIVER);
     let header = make::header(args, 0);
     let unknown = make::unknown(args, 5);
     let came = stations::received(args, 6);
-    stepped(regs, receiver.on_asdu(store, header, unknown, came, octets));
+    stepped(
+        regs,
+        entered(which, receiver, store, header, unknown, came, octets),
+    );
 }
 
 // The same over the whole store, of which the first octets are used.
-fn on_asdu_in(regs: &mut Numbers, store: &mut [u8], args: &Numbers, octets: &[u8]) {
+fn on_asdu_in(which: u8, regs: &mut Numbers, store: &mut [u8], args: &Numbers, octets: &[u8]) {
     let used = at(regs, held::STORE, 0) as usize;
     if used <= store.len() {
-        on_asdu(regs, &mut store[0..used], args, octets);
+        on_asdu(which, regs, &mut store[0..used], args, octets);
     }
 }
 
@@ -174,7 +196,7 @@ fn change(which: u8, regs: &mut Numbers, store: &mut [u8], args: &Numbers, octet
     match which {
         14 => start(regs, text::front(store, at(regs, held::STORE, 0))),
         15 => new(regs, args),
-        _ => on_asdu_in(regs, store, args, octets),
+        _ => on_asdu_in(which, regs, store, args, octets),
     }
 }
 
@@ -220,7 +242,8 @@ receiver agrees
 receiver awaited
 receiver start
 receiver new:42
-receiver on_asdu:11f12uRb",
+receiver on_asdu:11f12uRb
+receiver on_asdu_mut:11f12uRb",
         args,
         octets,
     );
