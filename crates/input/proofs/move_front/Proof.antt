@@ -1,7 +1,7 @@
 use Prim.Native.Nat.{_-_}
 use borrow.Author.Needs.{needs}
-use Rattle.replay.proofs.list.move_front.Statement.{statement}
-use Rattle.replay.proofs.list.move_front.Tie as tie
+use Rattle.input.proofs.move_front.Statement.{statement}
+use Rattle.input.proofs.move_front.Tie as tie
 
 abbrev Inv-loop : tie.InvT-loop
 Inv-loop input₀ from to place₀ i₀ input place i = Unit {0}

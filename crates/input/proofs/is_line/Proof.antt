@@ -1,6 +1,6 @@
 use borrow.Author.Needs.{needs}
-use Rattle.replay.proofs.list.is_line.Statement.{statement}
-use Rattle.replay.proofs.list.is_line.Tie as tie
+use Rattle.input.proofs.is_line.Statement.{statement}
+use Rattle.input.proofs.is_line.Tie as tie
 
 abbrev Inv-loop : tie.InvT-loop
 Inv-loop fd input₀ regs₀ left₀ input regs left = Unit {0}
