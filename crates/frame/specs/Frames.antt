@@ -5,6 +5,7 @@ use mathlib.Core.List.{List}
 use lib.Dec.{eqb, leb}
 use lib.ListN.{length}
 use Rattle.laws.specs.When.{when, _and_, _or_}
+use Rattle.asdu.specs.Codes.{«F_FR_NA_1», «F_SR_NA_1», «F_SC_NA_1», «F_LS_NA_1», «F_AF_NA_1», «F_SG_NA_1», «F_DR_TA_1», «F_SC_NB_1», «CALL_DIRECTORY»}
 use Rattle.asdu.specs.Entry.{entryAddress}
 use Rattle.asdu.specs.declared.Scq.{Scq}
 use Rattle.asdu.specs.declared.Cause.{Cause}
@@ -12,18 +13,18 @@ use Rattle.frame.specs.declared.Frame.{Frame}
 use Rattle.frame.specs.declared.Frame.the-variants.{FileReady, SectionReady, Sc, LastSection, Ack, Segment, Directory, QueryLog}
 
 abbrev pub typeOf : Frame → ℕ
-typeOf (FileReady ioa nof lof frq) = 120
-typeOf (SectionReady ioa nof nos lof srq) = 121
-typeOf (Sc ioa nof nos scq) = 122
-typeOf (LastSection ioa nof nos lsq chs) = 123
-typeOf (Ack ioa nof nos afq) = 124
-typeOf (Segment ioa nof nos los) = 125
-typeOf (Directory ioa cause) = 126
-typeOf (QueryLog ioa nof start stop) = 127
+typeOf (FileReady ioa nof lof frq) = «F_FR_NA_1»
+typeOf (SectionReady ioa nof nos lof srq) = «F_SR_NA_1»
+typeOf (Sc ioa nof nos scq) = «F_SC_NA_1»
+typeOf (LastSection ioa nof nos lsq chs) = «F_LS_NA_1»
+typeOf (Ack ioa nof nos afq) = «F_AF_NA_1»
+typeOf (Segment ioa nof nos los) = «F_SG_NA_1»
+typeOf (Directory ioa cause) = «F_DR_TA_1»
+typeOf (QueryLog ioa nof start stop) = «F_SC_NB_1»
 
 -- the call of a directory goes as a request, <5>; every other call, selection or deactivation as file transfer, <13>
 unfoldable pub scCause : Scq → Cause
-scCause q = when (eqb (q .action) 0) (record { value = 5 }) (record { value = 13 })
+scCause q = when (eqb (q .action) «CALL_DIRECTORY») (record { value = 5 }) (record { value = 13 })
 
 abbrev pub causeOf : Frame → Cause
 causeOf (FileReady ioa nof lof frq) = record { value = 13 }
@@ -69,8 +70,8 @@ lastIoa (QueryLog ioa nof start stop) beside = ioa
 
 -- the file transfer's types
 unfoldable pub isFileType : ℕ → Bool
-isFileType t = leb 120 t and leb t 127
+isFileType t = leb «F_FR_NA_1» t and leb t «F_SC_NB_1»
 
 -- those of the receiving side's frames
 unfoldable pub receiverSideType : ℕ → Bool
-receiverSideType t = eqb t 122 or eqb t 124 or eqb t 127
+receiverSideType t = eqb t «F_SC_NA_1» or eqb t «F_AF_NA_1» or eqb t «F_SC_NB_1»
