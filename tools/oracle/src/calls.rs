@@ -1,0 +1,111 @@
+//! What a list keeps, and which part of the oracle answers which call.
+
+use crate::answer::{Answer, OURS, RECORD, number, said};
+use crate::machines::{Served, Taken};
+use crate::parties::Party;
+use crate::words::Words;
+use crate::{machines, parties, show, stations, values};
+use iec104::ft::{FileTransferProcedure, checksum};
+
+/// The records and buffers of a list. A record is none where a call has made it one that no making gives.
+#[derive(Default)]
+pub struct Kept {
+    pub station: Option<FileTransferProcedure>,
+    pub provider: Option<Served>,
+    pub receiver: Option<Taken>,
+    pub party: Option<Party>,
+    pub file: Vec<u8>,
+    pub store: Vec<u8>,
+    pub damage: Vec<u8>,
+    /// Whether a call that the Rust was not asked may have written into the store.
+    pub store_unknown: bool,
+}
+
+/// Answers a call.
+pub fn answer(kept: &mut Kept, line: &str) -> Answer {
+    let mut words = Words::new(line);
+    call(kept, &mut words, line).unwrap_or(Answer::Outside("not a call that the oracle reads"))
+}
+
+fn call(kept: &mut Kept, words: &mut Words, line: &str) -> Option<Answer> {
+    match words.word()? {
+        "station" => stations::of_station(kept, words, line),
+        "provider" => machines::of_provider(kept, words, line),
+        "receiver" => machines::of_receiver(kept, words, line),
+        "party" => parties::of_party(kept, words),
+        "run" => parties::run(kept, words),
+        "file" => of_file(kept, words),
+        "store" => of_store(kept, words),
+        "damage" => of_damage(kept, words),
+        "script" => Some(of_script(kept, line)),
+        first => values::call(first, words),
+    }
+}
+
+// `octets` and `sum` of a buffer.
+fn of_buffer(buffer: &[u8], what: &str, words: &mut Words) -> Option<Answer> {
+    match what {
+        "octets" => {
+            let (from, count) = (usize::try_from(words.u64()?).ok()?, usize::try_from(words.u64()?).ok()?);
+            let part = buffer.get(from..).unwrap_or_default();
+            Some(said(show::octets(part.get(..count).unwrap_or(part))))
+        }
+        "sum" => Some(number(checksum(buffer).value)),
+        _ => None,
+    }
+}
+
+fn count(octets: &[u8]) -> Answer {
+    said(octets.len().to_string())
+}
+
+// A record over a buffer that other calls change is out of the comparison.
+fn of_file(kept: &mut Kept, words: &mut Words) -> Option<Answer> {
+    match words.word()? {
+        "is" => {
+            kept.file = words.octets()?;
+            kept.provider = None;
+            kept.party = None;
+            Some(count(&kept.file))
+        }
+        what => of_buffer(&kept.file, what, words),
+    }
+}
+
+fn of_store(kept: &mut Kept, words: &mut Words) -> Option<Answer> {
+    match words.word()? {
+        "is" => {
+            kept.store = words.octets()?;
+            kept.store_unknown = false;
+            kept.party = None;
+            if kept.receiver.as_ref().is_some_and(Taken::holds_octets) {
+                kept.receiver = None;
+            }
+            Some(count(&kept.store))
+        }
+        _ if kept.store_unknown => Some(RECORD),
+        what => of_buffer(&kept.store, what, words),
+    }
+}
+
+fn of_damage(kept: &mut Kept, words: &mut Words) -> Option<Answer> {
+    match words.word()? {
+        "is" => {
+            kept.damage = words.octets()?;
+            kept.party = None;
+            Some(count(&kept.damage))
+        }
+        what => of_buffer(&kept.damage, what, words),
+    }
+}
+
+// A script is ours; what it reads stands in the buffers.
+fn of_script(kept: &mut Kept, line: &str) -> Answer {
+    let quoted = line.strip_prefix("script read \"").and_then(|rest| rest.strip_suffix('"'));
+    let text = quoted.map(|text| text.replace("\\n", "\n")).unwrap_or_default();
+    if let Some((_, _, file, damage)) = parties::script(&text) {
+        (kept.file, kept.damage) = (file, damage);
+        (kept.provider, kept.party) = (None, None);
+    }
+    OURS
+}

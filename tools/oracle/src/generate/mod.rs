@@ -1,0 +1,81 @@
+//! The lists of calls that are compared. A case is a list that makes what it needs, so that it can be played
+//! alone. The tables are the same in every run; the others come from the seed. Pages of the directory and its
+//! call have no calls in replay yet: they belong here as further kinds.
+
+mod flows;
+mod tables;
+mod values;
+
+use crate::random::Random;
+
+pub struct Case {
+    pub kind: &'static str,
+    pub calls: Vec<String>,
+}
+
+impl Case {
+    fn new(kind: &'static str) -> Self {
+        Self { kind, calls: Vec::new() }
+    }
+
+    fn call(&mut self, line: impl Into<String>) {
+        self.calls.push(line.into());
+    }
+}
+
+pub const ROLES: [&str; 2] = ["controlling", "controlled"];
+pub const SELECTIONS: [&str; 4] = ["none", "monitor", "control", "both"];
+pub const UNKNOWN: [&str; 5] = ["none", "type", "cause", "common_address", "object_address"];
+
+/// Octets of cause, common address and object address, of every system.
+pub const WIDTHS: [[u8; 3]; 12] = [
+    [2, 2, 3],
+    [1, 1, 1],
+    [1, 1, 2],
+    [1, 1, 3],
+    [1, 2, 1],
+    [1, 2, 2],
+    [1, 2, 3],
+    [2, 1, 1],
+    [2, 1, 2],
+    [2, 1, 3],
+    [2, 2, 1],
+    [2, 2, 2],
+];
+
+pub fn widths([cause, common, object]: [u8; 3]) -> String {
+    format!("{cause} {common} {object}")
+}
+
+/// The largest object address of a width.
+pub fn max_ioa([_, _, object]: [u8; 3]) -> u32 {
+    0xFFFF_FFFF >> (32 - 8 * u32::from(object))
+}
+
+/// The broadcast address of a width.
+pub fn broadcast([_, common, _]: [u8; 3]) -> u16 {
+    if common == 1 { 0xFF } else { 0xFFFF }
+}
+
+/// The tables, each a case or more.
+pub fn tables(take: &mut dyn FnMut(Case)) {
+    tables::elements(take);
+    tables::settings(take);
+    tables::frames(take);
+    tables::admission(take);
+    tables::answering(take);
+    tables::qualifiers(take);
+    tables::sections(take);
+    tables::makers(take);
+}
+
+/// A case of a random kind.
+pub fn random(random: &mut Random) -> Case {
+    match random.below(16) {
+        0 => values::packing(random),
+        1 | 2 => values::making(random),
+        3..=5 => values::admission(random),
+        6 => flows::run(random),
+        _ => flows::flow(random),
+    }
+}
