@@ -23,13 +23,8 @@ const PUBLISHED: [(&str, &str); 9] = [
     ("asdu/layout/file.rs", "asdu/layout/file.rs"),
 ];
 
-const STAND_INS: [&str; 5] = [
-    "asdu/body.rs",
-    "asdu/decoded.rs",
-    "asdu/unknown.rs",
-    "asdu/elements/mod.rs",
-    "asdu/layout/mod.rs",
-];
+const STAND_INS: [&str; 5] =
+    ["asdu/body.rs", "asdu/decoded.rs", "asdu/unknown.rs", "asdu/elements/mod.rs", "asdu/layout/mod.rs"];
 
 fn stop(why: &str) -> ! {
     eprintln!("{why}");

@@ -5,7 +5,7 @@
 //!
 //! Every call is counted as one of: the same; outside (the Rust cannot be asked, or document 01 leaves it out); an
 //! intended difference, where replay must answer what docs/DIFFERENCES.md says; a difference. A difference is
-//! printed with the shortest list of calls that shows it.
+//! printed with the shortest list of calls that shows it; the run ends after `--stop` of them.
 
 use crate::answer::Answer;
 use crate::calls::{self, Kept};
@@ -50,14 +50,8 @@ struct Comparison {
 }
 
 fn options(words: &[String]) -> Options {
-    let mut options = Options {
-        seed: 1,
-        calls: 1_250_000,
-        replay: "target/bin/replay".into(),
-        stop: 10,
-        tables: true,
-        random: true,
-    };
+    let mut options =
+        Options { seed: 1, calls: 1_250_000, replay: "target/bin/replay".into(), stop: 10, tables: true, random: true };
     let mut words = words.iter();
     while let Some(word) = words.next() {
         let value = words.next().cloned().unwrap_or_default();
@@ -80,7 +74,9 @@ fn options(words: &[String]) -> Options {
 fn played(replay: &str, list: &str) -> String {
     let child = Command::new(replay).stdin(Stdio::piped()).stdout(Stdio::piped()).spawn();
     let mut child = child.unwrap_or_else(|why| {
-        crate::stop(&format!("{replay} cannot be run ({why}): build it with 'rt check replay', or name it with --replay"))
+        crate::stop(&format!(
+            "{replay} cannot be run ({why}): build it with 'rt check replay', or name it with --replay"
+        ))
     });
     let mut input = child.stdin.take().expect("a pipe");
     let text = list.to_string();
@@ -140,7 +136,11 @@ fn judged(oracle: Answer, ours: Option<&str>) -> Verdict {
     match oracle {
         Answer::Outside(why) => Verdict::Outside(why),
         Answer::Said(rust) if Some(rust.as_str()) == ours => {
-            if rust == "refused 4" { Verdict::SameFour } else { Verdict::Same }
+            if rust == "refused 4" {
+                Verdict::SameFour
+            } else {
+                Verdict::Same
+            }
         }
         Answer::Said(rust) => Verdict::Different { rust, ours: shown },
         Answer::Differs { ours: meant, why, .. } if Some(meant.as_str()) == ours => Verdict::Intended(why),
@@ -185,7 +185,15 @@ fn shortened<'a>(replay: &str, calls: &[&'a String]) -> Vec<&'a String> {
 }
 
 impl Comparison {
+    // Whether as many differences are reported as the run is to report.
+    fn is_over(&self) -> bool {
+        self.found.len() >= self.options.stop
+    }
+
     fn take(&mut self, case: Case) {
+        if self.is_over() {
+            return;
+        }
         self.lines += case.calls.len();
         self.batch.push(case);
         if self.lines >= BATCH {
@@ -208,7 +216,7 @@ impl Comparison {
                 differs |= self.count(case.kind, call, judged(calls::answer(&mut kept, call), ours[place]));
                 place += 1;
             }
-            if differs && self.found.len() < self.options.stop {
+            if differs && !self.is_over() {
                 self.report(case);
             }
         }
@@ -262,7 +270,10 @@ impl Comparison {
 
     fn summary(&self) {
         println!("seed {}, {} calls, {} s", self.options.seed, self.calls, self.begun.elapsed().as_secs());
-        println!("{:40} {:>9} {:>9} {:>9} {:>9} {:>9} {:>9}", "kind", "calls", "same", "both 4", "intended", "outside", "differ");
+        println!(
+            "{:40} {:>9} {:>9} {:>9} {:>9} {:>9} {:>9}",
+            "kind", "calls", "same", "both 4", "intended", "outside", "differ"
+        );
         let mut all = Count::default();
         for (kind, count) in &self.kinds {
             row(kind, count);
@@ -308,7 +319,10 @@ pub fn run(words: &[String]) {
         generate::tables(&mut |case| comparison.take(case));
     }
     let mut random = Random::new(comparison.options.seed);
-    while comparison.options.random && comparison.calls + (comparison.lines as u64) < comparison.options.calls {
+    while comparison.options.random
+        && !comparison.is_over()
+        && comparison.calls + (comparison.lines as u64) < comparison.options.calls
+    {
         let case = generate::random(&mut random);
         comparison.take(case);
     }

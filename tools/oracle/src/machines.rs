@@ -12,7 +12,9 @@ use crate::words::Words;
 use iec104::asdu::{AddressSizes, Afq, Known, Nof, Nos, Scq};
 use iec104::ft::provide::Provider;
 use iec104::ft::receive::{Failure, Progress, Receiver, Step};
-use iec104::ft::{FileTransferProcedure, Frame, FtError, Reaction, Role, Selection, decode_frame_with, encode_frame_with};
+use iec104::ft::{
+    FileTransferProcedure, Frame, FtError, Reaction, Role, Selection, decode_frame_with, encode_frame_with,
+};
 use std::collections::HashMap;
 
 // ---- What both have
@@ -210,10 +212,8 @@ impl Served {
         assert_eq!(between(&record, "done: ", " "), self.done.to_string(), "done as the answers say");
         let station = stations::shown(self.station);
         let (ioa, nof, done) = (self.ioa, self.nof.value, u8::from(self.done));
-        let front = format!(
-            "station {station} ioa {ioa} nof {nof} length {} section_len {}",
-            self.length, self.section_len
-        );
+        let front =
+            format!("station {station} ioa {ioa} nof {nof} length {} section_len {}", self.length, self.section_len);
         Answer::Differs {
             rust: format!("{front} done {done}"),
             ours: format!("{front} unmatched {} done {done}", self.unmatched),
@@ -397,7 +397,11 @@ impl Taken {
                 }
             }
             Progress::Complete(file) => {
-                assert_eq!(store.get(..self.kept), Some(file.as_slice()), "the file given away is what the store holds");
+                assert_eq!(
+                    store.get(..self.kept),
+                    Some(file.as_slice()),
+                    "the file given away is what the store holds"
+                );
                 self.closed = true;
             }
             Progress::Failed(Failure::FileChecksum { .. }) => self.closed = true,

@@ -268,13 +268,8 @@ pub fn transferred(text: &str) -> Option<String> {
     let (ioa, nof, file, damage) = script(text)?;
     let store = vec![0; file.len()];
     let mut kept = Kept { file, store, damage, ..Kept::default() };
-    let settings = Settings {
-        sizes: AddressSizes::CONVENTIONAL,
-        ca: 1,
-        ioa,
-        nof: Nof { value: nof },
-        role: Role::Controlled,
-    };
+    let settings =
+        Settings { sizes: AddressSizes::CONVENTIONAL, ca: 1, ioa, nof: Nof { value: nof }, role: Role::Controlled };
     let mut party = Party::new(&settings, &kept).ok()?;
     let Answer::Said(text) = lines(&mut party, 65535, &mut kept.store) else {
         return None;

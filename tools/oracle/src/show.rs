@@ -48,11 +48,8 @@ pub fn time(time: &Cp56Time2a) -> String {
 
 pub fn entry(entry: &DirectoryEntry) -> String {
     let sof = entry.sof;
-    let (last, subdirectory, active) = (
-        u8::from(sof.last_file_of_directory),
-        u8::from(sof.name_defines_subdirectory),
-        u8::from(sof.transfer_active),
-    );
+    let (last, subdirectory, active) =
+        (u8::from(sof.last_file_of_directory), u8::from(sof.name_defines_subdirectory), u8::from(sof.transfer_active));
     let (nof, lof, when) = (entry.nof.value, entry.lof.value, time(&entry.time));
     format!("{nof} {lof} {} {last} {subdirectory} {active} {when}", sof.status)
 }
@@ -65,13 +62,9 @@ pub fn octets(octets: &[u8]) -> String {
 /// A frame, without what stands beside it.
 pub fn frame(frame: &Frame) -> String {
     match frame {
-        Frame::FileReady { ioa, nof, lof, frq } => format!(
-            "file_ready {ioa} {} {} {} {}",
-            nof.value,
-            lof.value,
-            frq.value,
-            u8::from(frq.negative_confirm)
-        ),
+        Frame::FileReady { ioa, nof, lof, frq } => {
+            format!("file_ready {ioa} {} {} {} {}", nof.value, lof.value, frq.value, u8::from(frq.negative_confirm))
+        }
         Frame::SectionReady { ioa, nof, nos, lof, srq } => format!(
             "section_ready {ioa} {} {} {} {} {}",
             nof.value,

@@ -7,7 +7,9 @@ use crate::show;
 use crate::values::{built, direction_for};
 use crate::words::{Facts, Words, Written, six_bits};
 use iec104::asdu::{AddressSizes, Cause, Discard, Header, Known, TypeId};
-use iec104::ft::{FileTransferProcedure, Frame, FtError, Outcome, Reaction, Role, Selection, decode_frame_with, encode_frame_with};
+use iec104::ft::{
+    FileTransferProcedure, Frame, FtError, Outcome, Reaction, Role, Selection, decode_frame_with, encode_frame_with,
+};
 
 // ---- Octets
 
@@ -116,7 +118,13 @@ fn is_other_cause(frame: &Frame, cause: u8) -> bool {
 }
 
 // What a call hands in behind its header.
-fn object_area(facts: Facts, frame: Option<Frame>, undecodable: bool, sizes: AddressSizes, salt: usize) -> (Body, Sort) {
+fn object_area(
+    facts: Facts,
+    frame: Option<Frame>,
+    undecodable: bool,
+    sizes: AddressSizes,
+    salt: usize,
+) -> (Body, Sort) {
     if undecodable {
         return (broken(facts.type_id, salt), Sort::Undecodable);
     }
@@ -128,7 +136,11 @@ fn object_area(facts: Facts, frame: Option<Frame>, undecodable: bool, sizes: Add
 }
 
 /// HEADER UNKNOWN RECEIVED, then what the call has behind them, then BESIDE.
-pub fn arrival(words: &mut Words, line: &str, sizes: AddressSizes) -> Option<(Result<Arrival, Answer>, Option<Written>)> {
+pub fn arrival(
+    words: &mut Words,
+    line: &str,
+    sizes: AddressSizes,
+) -> Option<(Result<Arrival, Answer>, Option<Written>)> {
     let facts = words.facts()?;
     let known = words.known()?;
     let received = words.received()?;

@@ -6,8 +6,8 @@ use crate::stations::is_own_address;
 use crate::words::{Widths, Words, Written, entry, six_bits};
 use iec104::apci::MAX_ASDU;
 use iec104::asdu::{
-    AddressSizes, Afq, AsduLayout, Cp56Time2a, Direction, FDrTa1, Frq, Header, Known, Lof, Los, Nof, Nos, Scq,
-    Sof, Srq, TypeId, is_mirror,
+    AddressSizes, Afq, AsduLayout, Cp56Time2a, Direction, FDrTa1, Frq, Header, Known, Lof, Los, Nof, Nos, Scq, Sof,
+    Srq, TypeId, is_mirror,
 };
 use iec104::ft::{self, DirectoryEntry, FileTransferProcedure, Frame, FtError, Reaction, Role, Selection};
 

@@ -1,10 +1,10 @@
 //! A call, read word by word.
 
+use iec104::asdu::Direction;
 use iec104::asdu::{
     AddressSizes, Afq, AsduLayout, Cause, Chs, Cp56Time2a, FDrTa1, Frq, Known, Lof, Los, Lsq, Nof, Nos, Scq, Segment,
     Sof, Srq, Unspecified,
 };
-use iec104::asdu::Direction;
 use iec104::ft::{DirectoryEntry, Frame, Role, Selection};
 
 pub struct Words<'a> {
@@ -56,11 +56,9 @@ impl Written {
                 ioa: *ioa,
                 segment: Segment { nof: *nof, nos: *nos, los: *los, payload: beside.to_vec() },
             }),
-            Self::Directory { ioa, cause } => Some(Frame::Directory {
-                ioa: *ioa,
-                cause: six_bits(*cause)?,
-                files: entries(beside)?,
-            }),
+            Self::Directory { ioa, cause } => {
+                Some(Frame::Directory { ioa: *ioa, cause: six_bits(*cause)?, files: entries(beside)? })
+            }
         }
     }
 }

@@ -278,6 +278,12 @@ fn make(flow: &mut Flow) {
         1 if flow.trouble > 0 => ["monitor", "control"][role],
         _ => right,
     };
+    let provides = match flow.random.below(20) {
+        0 if flow.trouble > 0 => ["monitor", "control"][role],
+        1 if flow.trouble > 0 => "none",
+        2 => "both",
+        _ => right,
+    };
     let (w, ca, ioa, nof) = (widths(flow.w), flow.ca, flow.ioa, flow.nof);
     let count = length(flow.random);
     let first = flow.random.octet();
@@ -289,7 +295,7 @@ fn make(flow: &mut Flow) {
     flow.call(format!("file is {octets}").trim_end().to_string());
     let room = (count + 8).max(64).min(9216);
     flow.call(format!("store is fill {room} {first} {first}"));
-    flow.call(format!("station new {} {right} {ca} 0 {w}", ROLES[role]));
+    flow.call(format!("station new {} {provides} {ca} 0 {w}", ROLES[role]));
     flow.call(format!("provider new {ioa} {nof}"));
     flow.call(format!("station new {} {selection} {ca} 0 {w}", ROLES[1 - role]));
     flow.call(format!("receiver new {ioa} {nof}"));

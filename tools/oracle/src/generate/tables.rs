@@ -64,8 +64,20 @@ fn times(case: &mut Case) {
 
 fn constants(case: &mut Case) {
     for name in [
-        "nof_len", "nos_len", "lof_len", "los_len", "sof_len", "time_len", "entry_len", "deactivate_file",
-        "delete_file", "deactivate_section", "los_max", "max_segment", "max_asdu", "max_directory_files",
+        "nof_len",
+        "nos_len",
+        "lof_len",
+        "los_len",
+        "sof_len",
+        "time_len",
+        "entry_len",
+        "deactivate_file",
+        "delete_file",
+        "deactivate_section",
+        "los_max",
+        "max_segment",
+        "max_asdu",
+        "max_directory_files",
     ] {
         case.call(format!("constant {name}"));
     }
@@ -79,8 +91,15 @@ fn sizes(case: &mut Case) {
         for common in 0..=3 {
             for object in 0..=4 {
                 for what in [
-                    "new", "is_right", "originator_address", "header_len", "max_ioa", "max_common_address",
-                    "broadcast_common_address", "max_segment", "max_directory_files",
+                    "new",
+                    "is_right",
+                    "originator_address",
+                    "header_len",
+                    "max_ioa",
+                    "max_common_address",
+                    "broadcast_common_address",
+                    "max_segment",
+                    "max_directory_files",
                 ] {
                     case.call(format!("sizes {what} {cause} {common} {object}"));
                 }

@@ -48,7 +48,11 @@ pub fn packing(random: &mut Random) -> Case {
         case.call(format!("unpack {}", show::octets(&packed(random))));
         let octets: Vec<u8> = (0..random.below(40)).map(|_| random.octet()).collect();
         case.call(format!("checksum {}", show::octets(&octets)).trim_end().to_string());
-        let stated = if random.flag() { octets.iter().fold(0, |sum: u8, octet| sum.wrapping_add(*octet)) } else { random.octet() };
+        let stated = if random.flag() {
+            octets.iter().fold(0, |sum: u8, octet| sum.wrapping_add(*octet))
+        } else {
+            random.octet()
+        };
         case.call(format!("check_checksum {stated} {}", show::octets(&octets)).trim_end().to_string());
     }
     case

@@ -96,11 +96,7 @@ pub fn encode_body(header: &Header, objects: &[Object<'_>]) -> Result<Vec<u8>, A
     encode_body_with(header, objects, AddressSizes::CONVENTIONAL)
 }
 
-pub fn encode_body_with(
-    header: &Header,
-    objects: &[Object<'_>],
-    sizes: AddressSizes,
-) -> Result<Vec<u8>, AsduError> {
+pub fn encode_body_with(header: &Header, objects: &[Object<'_>], sizes: AddressSizes) -> Result<Vec<u8>, AsduError> {
     if usize::from(header.count) != objects.len() {
         return Err(AsduError::ObjectCountMismatch { header: header.count, objects: objects.len() });
     }

@@ -69,13 +69,7 @@ pub fn mirror_header(header: &Header, which: Unspecified) -> Header {
 }
 
 /// The octets are not compared, only that there is a mirror. A broadcast is answered with the own address.
-pub fn mirror_frame(
-    header: &Header,
-    asdu: &[u8],
-    which: Unspecified,
-    own: u16,
-    sizes: AddressSizes,
-) -> Vec<u8> {
+pub fn mirror_frame(header: &Header, asdu: &[u8], which: Unspecified, own: u16, sizes: AddressSizes) -> Vec<u8> {
     let mut mirrored = mirror_header(header, which);
     if mirrored.common_address == sizes.broadcast_common_address() {
         mirrored.common_address = own;
