@@ -62,11 +62,11 @@ pub fn tables(take: &mut dyn FnMut(Case)) {
     tables::elements(take);
     tables::settings(take);
     tables::frames(take);
-    tables::admission(take);
+    tables::makers(take);
     tables::answering(take);
     tables::qualifiers(take);
     tables::sections(take);
-    tables::makers(take);
+    tables::admission(take);
 }
 
 /// A case of a random kind.
