@@ -4,6 +4,8 @@
 pub enum Answer {
     /// The Rust's answer, in the words of replay.
     Said(String),
+    /// An answer of the oracle's own, about what a list keeps: a buffer, or that a record is made.
+    Own(String),
     /// The Rust's answer differs by intention. `ours` is what docs/DIFFERENCES.md says that replay answers.
     Differs { rust: String, ours: String, why: &'static str },
     /// The Rust cannot be asked this, or document 01 leaves it out of the comparison.
@@ -13,7 +15,7 @@ pub enum Answer {
 impl Answer {
     pub fn written(&self) -> String {
         match self {
-            Self::Said(text) => text.clone(),
+            Self::Said(text) | Self::Own(text) => text.clone(),
             Self::Differs { rust, ours, why } => format!("{rust} (intended: {ours}; {why})"),
             Self::Outside(why) => format!("outside: {why}"),
         }
@@ -22,6 +24,10 @@ impl Answer {
 
 pub fn said(text: impl Into<String>) -> Answer {
     Answer::Said(text.into())
+}
+
+pub fn own(text: impl Into<String>) -> Answer {
+    Answer::Own(text.into())
 }
 
 pub fn number(n: impl Into<u64>) -> Answer {

@@ -1,6 +1,6 @@
 //! What a list keeps, and which part of the oracle answers which call.
 
-use crate::answer::{Answer, OURS, RECORD, number, said};
+use crate::answer::{Answer, OURS, RECORD, number, own, said};
 use crate::machines::{Served, Taken};
 use crate::parties::Party;
 use crate::words::Words;
@@ -42,6 +42,11 @@ fn call(kept: &mut Kept, words: &mut Words, line: &str) -> Option<Answer> {
     }
 }
 
+// `octets` and `sum` of a buffer that only the list fills.
+fn of_own(buffer: &[u8], what: &str, words: &mut Words) -> Option<Answer> {
+    of_buffer(buffer, what, words).map(|answer| own(answer.written()))
+}
+
 // `octets` and `sum` of a buffer.
 fn of_buffer(buffer: &[u8], what: &str, words: &mut Words) -> Option<Answer> {
     match what {
@@ -56,7 +61,7 @@ fn of_buffer(buffer: &[u8], what: &str, words: &mut Words) -> Option<Answer> {
 }
 
 fn count(octets: &[u8]) -> Answer {
-    said(octets.len().to_string())
+    own(octets.len().to_string())
 }
 
 // A record over a buffer that other calls change is out of the comparison.
@@ -68,7 +73,7 @@ fn of_file(kept: &mut Kept, words: &mut Words) -> Option<Answer> {
             kept.party = None;
             Some(count(&kept.file))
         }
-        what => of_buffer(&kept.file, what, words),
+        what => of_own(&kept.file, what, words),
     }
 }
 
@@ -95,7 +100,7 @@ fn of_damage(kept: &mut Kept, words: &mut Words) -> Option<Answer> {
             kept.party = None;
             Some(count(&kept.damage))
         }
-        what => of_buffer(&kept.damage, what, words),
+        what => of_own(&kept.damage, what, words),
     }
 }
 

@@ -3,8 +3,9 @@
 //!
 //!     oracle compare [--seed N] [--calls N] [--replay PROGRAM] [--stop N] [--only tables|random]
 //!
-//! Every call is counted as one of: the same; outside (the Rust cannot be asked, or document 01 leaves it out); an
-//! intended difference, where replay must answer what docs/DIFFERENCES.md says; a difference. A difference is
+//! Every call is counted as one of: the same; both 4 (both refuse by 4, which document 01 leaves out); an intended
+//! difference, where replay must answer what docs/DIFFERENCES.md says; own (an answer about what a list keeps, which
+//! the Rust is not asked); outside (the Rust cannot be asked, or document 01 leaves it out); a difference. A difference is
 //! printed with the shortest list of calls that shows it; the run ends after `--stop` of them.
 
 use crate::answer::Answer;
@@ -31,6 +32,7 @@ struct Options {
 struct Count {
     calls: u64,
     same: u64,
+    own: u64,
     fours: u64,
     outside: u64,
     intended: u64,
@@ -51,7 +53,7 @@ struct Comparison {
 
 fn options(words: &[String]) -> Options {
     let mut options =
-        Options { seed: 1, calls: 1_250_000, replay: "target/bin/replay".into(), stop: 10, tables: true, random: true };
+        Options { seed: 1, calls: 1_400_000, replay: "target/bin/replay".into(), stop: 10, tables: true, random: true };
     let mut words = words.iter();
     while let Some(word) = words.next() {
         let value = words.next().cloned().unwrap_or_default();
@@ -125,6 +127,7 @@ fn list_of(calls: &[&String]) -> String {
 #[derive(PartialEq, Eq)]
 enum Verdict {
     Same,
+    Own,
     SameFour,
     Outside(&'static str),
     Intended(&'static str),
@@ -142,7 +145,8 @@ fn judged(oracle: Answer, ours: Option<&str>) -> Verdict {
                 Verdict::Same
             }
         }
-        Answer::Said(rust) => Verdict::Different { rust, ours: shown },
+        Answer::Own(text) if Some(text.as_str()) == ours => Verdict::Own,
+        Answer::Said(rust) | Answer::Own(rust) => Verdict::Different { rust, ours: shown },
         Answer::Differs { ours: meant, why, .. } if Some(meant.as_str()) == ours => Verdict::Intended(why),
         Answer::Differs { rust, ours: meant, .. } => {
             Verdict::Different { rust: format!("{rust} (intended here: {meant})"), ours: shown }
@@ -230,6 +234,7 @@ impl Comparison {
         count.calls += 1;
         match verdict {
             Verdict::Same => count.same += 1,
+            Verdict::Own => count.own += 1,
             Verdict::SameFour => count.fours += 1,
             Verdict::Outside(why) => {
                 count.outside += 1;
@@ -271,14 +276,15 @@ impl Comparison {
     fn summary(&self) {
         println!("seed {}, {} calls, {} s", self.options.seed, self.calls, self.begun.elapsed().as_secs());
         println!(
-            "{:40} {:>9} {:>9} {:>9} {:>9} {:>9} {:>9}",
-            "kind", "calls", "same", "both 4", "intended", "outside", "differ"
+            "{:38} {:>9} {:>9} {:>9} {:>9} {:>9} {:>9} {:>9}",
+            "kind", "calls", "same", "both 4", "intended", "own", "outside", "differ"
         );
         let mut all = Count::default();
         for (kind, count) in &self.kinds {
             row(kind, count);
             all.calls += count.calls;
             all.same += count.same;
+            all.own += count.own;
             all.fours += count.fours;
             all.intended += count.intended;
             all.outside += count.outside;
@@ -294,13 +300,17 @@ impl Comparison {
             println!("{times:>9}  {why}");
         }
         let compared = all.same + all.fours + all.intended + all.different;
-        println!("{compared} calls compared, {} differences", all.different);
+        println!(
+            "{compared} calls answered by both, {} in the comparison's domain, {} differences",
+            compared - all.fours,
+            all.different
+        );
     }
 }
 
 fn row(kind: &str, count: &Count) {
-    let Count { calls, same, fours, outside, intended, different } = count;
-    println!("{kind:40} {calls:>9} {same:>9} {fours:>9} {intended:>9} {outside:>9} {different:>9}");
+    let Count { calls, same, own, fours, outside, intended, different } = count;
+    println!("{kind:38} {calls:>9} {same:>9} {fours:>9} {intended:>9} {own:>9} {outside:>9} {different:>9}");
 }
 
 pub fn run(words: &[String]) {

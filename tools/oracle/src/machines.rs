@@ -4,7 +4,7 @@
 //! the Receiver and writes each accepted segment where document 01 has it, behind the octets already held; what
 //! the Rust then gives away, or shows in its record, is held against that store.
 
-use crate::answer::{ADDRESS, Answer, INDEX, OURS, RECORD, STORE, refused, said};
+use crate::answer::{ADDRESS, Answer, INDEX, OURS, RECORD, STORE, own, refused, said};
 use crate::calls::Kept;
 use crate::show;
 use crate::stations::{self, Arrival, Sort, admitted, arrival, refusal, sent_back};
@@ -101,7 +101,7 @@ fn new_provider(kept: &mut Kept, words: &mut Words) -> Option<Answer> {
         done: false,
         replies: HashMap::new(),
     });
-    Some(said("made"))
+    Some(own("made"))
 }
 
 impl Served {
@@ -260,7 +260,7 @@ fn of_reply(served: &mut Served, what: &str, words: &mut Words, file: &[u8]) -> 
 fn part_of_file(words: &mut Words, file: &[u8]) -> Option<Answer> {
     let (start, length) = (usize::try_from(words.u64()?).ok()?, usize::try_from(words.u64()?).ok()?);
     let part = start.checked_add(length).and_then(|end| file.get(start..end));
-    Some(part.map_or(OURS, |octets| said(show::octets(octets))))
+    Some(part.map_or(OURS, |octets| own(show::octets(octets))))
 }
 
 fn announced(served: &Served) -> Answer {
@@ -512,7 +512,7 @@ fn new_receiver(kept: &mut Kept, words: &mut Words) -> Option<Answer> {
         return Some(ADDRESS);
     }
     kept.receiver = Some(Taken::new(station, ioa, nof));
-    Some(said("made"))
+    Some(own("made"))
 }
 
 fn length_of(taken: &Taken) -> Answer {

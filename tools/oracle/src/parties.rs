@@ -1,7 +1,7 @@
 //! Two parties: the Rust's Provider and Receiver, each handed what the other sends. The Rust has no such run; the
 //! queue, the damage and the count of frames are ours, as document 01 has the exchange and the script.
 
-use crate::answer::{ADDRESS, Answer, OURS, RECORD, SCRIPT, STORE, WIDTHS, refused, said};
+use crate::answer::{ADDRESS, Answer, OURS, RECORD, SCRIPT, STORE, WIDTHS, own, refused, said};
 use crate::calls::Kept;
 use crate::machines::{Taken, section_len, sent_frame};
 use crate::show;
@@ -210,7 +210,7 @@ pub fn of_party(kept: &mut Kept, words: &mut Words) -> Option<Answer> {
                 if kept.receiver.as_ref().is_some_and(Taken::holds_octets) {
                     kept.receiver = None;
                 }
-                said("made")
+                own("made")
             }
             Err(answer) => answer,
         });

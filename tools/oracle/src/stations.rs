@@ -1,7 +1,7 @@
 //! Stations, and what they admit: the calls that begin with `station`, and how a header and a frame of a call
 //! become the octets that the Rust takes.
 
-use crate::answer::{ADDRESS, Answer, HEADER, OURS, RANGE, RECORD, WIDTHS, refused, said};
+use crate::answer::{ADDRESS, Answer, HEADER, OURS, RANGE, RECORD, WIDTHS, own, refused, said};
 use crate::calls::Kept;
 use crate::show;
 use crate::values::{built, direction_for};
@@ -230,7 +230,7 @@ fn made(kept: &mut Kept, station: FileTransferProcedure, word: &str) -> Answer {
         return ADDRESS;
     }
     kept.station = Some(station);
-    said(word)
+    own(word)
 }
 
 fn new(kept: &mut Kept, words: &mut Words, word: &str) -> Option<Answer> {

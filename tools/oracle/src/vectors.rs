@@ -48,7 +48,7 @@ impl List {
         }
         self.line(format!("# {}", case.kind), None);
         for call in chosen {
-            if let Answer::Said(answer) = calls::answer(&mut self.kept, call) {
+            if let Answer::Said(answer) | Answer::Own(answer) = calls::answer(&mut self.kept, call) {
                 self.line(call.clone(), Some(answer));
             }
         }

@@ -78,7 +78,7 @@ impl Flow<'_> {
         let answer = calls::answer(&mut self.kept, &line);
         self.case.call(line);
         match answer {
-            Answer::Said(text) => text,
+            Answer::Said(text) | Answer::Own(text) => text,
             _ => String::new(),
         }
     }
