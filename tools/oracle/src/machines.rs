@@ -13,7 +13,8 @@ use iec104::asdu::{AddressSizes, Afq, Known, Nof, Nos, Scq};
 use iec104::ft::provide::Provider;
 use iec104::ft::receive::{Failure, Progress, Receiver, Step};
 use iec104::ft::{
-    FileTransferProcedure, Frame, FtError, Reaction, Role, Selection, decode_frame_with, encode_frame_with,
+    FileTransferProcedure, Frame, FtError, Reaction, Role, Selection, decode_frame_with, encode_frame,
+    encode_frame_with,
 };
 use std::collections::HashMap;
 
@@ -61,7 +62,7 @@ pub struct Served {
     replies: HashMap<String, Vec<Frame>>,
 }
 
-/// The section length in a Provider's record.
+/// The section length in a Provider's record, as the Rust prints it.
 pub fn section_len(provider: &Provider) -> usize {
     let record = format!("{provider:?}");
     between(&record, "section_len: ", ",").parse().expect("a section length")
@@ -541,5 +542,37 @@ pub fn of_receiver(kept: &mut Kept, words: &mut Words, line: &str) -> Option<Ans
         "awaited" => Some(said(taken.awaited())),
         "show" => Some(taken.shown(&kept.store)),
         _ => Some(OURS),
+    }
+}
+
+// ---- The Provider's table
+
+// How many sections the Rust's Provider readies one after another.
+fn sections(provider: &mut Provider, ioa: u32, nof: Nof) -> u16 {
+    let mut nos = 0;
+    loop {
+        let afq = Afq { action: Afq::SECTION_POSITIVE, error: 0 };
+        let acknowledged = Frame::Ack { ioa, nof, nos: Nos { value: nos }, afq };
+        let octets = encode_frame(1, 0, &acknowledged).expect("an acknowledgement");
+        let step = provider.on_asdu(&octets, &Known::EVERYTHING).expect("an answer");
+        match sent_frames(&step.send, AddressSizes::CONVENTIONAL).first() {
+            Some(Frame::SectionReady { .. }) if nos < 255 => nos += 1,
+            _ => return nos.into(),
+        }
+    }
+}
+
+/// Prints document 01's table of sections as the Rust gives it, with the files that no list can lend.
+pub fn table() {
+    let (ioa, nof) = (100, Nof { value: 7 });
+    let station = FileTransferProcedure::controlled(Selection::MONITOR, 1, 0);
+    for length in [0, 4096, 4097, 1_044_480, 1_044_481, 16_777_215, 16_777_216] {
+        match Provider::new(station, ioa, nof, vec![1; length]) {
+            None => println!("{length}: refused 1"),
+            Some(mut provider) => {
+                let longest = section_len(&provider);
+                println!("{length}: section length {longest}, sections {}", sections(&mut provider, ioa, nof));
+            }
+        }
     }
 }
