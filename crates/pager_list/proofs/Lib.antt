@@ -1,0 +1,4 @@
+pub mod Drops
+pub mod Packing
+pub mod Values
+pub mod Walk
