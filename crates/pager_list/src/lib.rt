@@ -15,7 +15,6 @@ use pager::Page;
 use pager::PageResult;
 use pager::PagesResult;
 ghost use mathlib.Core.Path.{_≡_};
-ghost use Prim.Native.Nat.{_+_, _-_, _*_, _<_, min};
 ghost use Rattle.laws.specs.When.{_and_};
 ghost use Rattle.lists.specs.Parts.{divCeil};
 ghost use Rattle.asdu.specs.Entry.{entryInRange};
@@ -25,12 +24,12 @@ ghost use Rattle.pager_list.specs.Listed.{listedPages, listedPage, liste
 
 // What is known of the entries gone through so far: how many they are, whether each is in range, and
 // the one that stands on the page and at the index asked for, or 9 while there is none.
-pub struct Seen {
-    pub page: usize,
-    pub index: usize,
-    pub count: usize,
-    pub right: bool,
-    pub found: EntryResult,
+struct Seen {
+    page: usize,
+    index: usize,
+    count: usize,
+    right: bool,
+    found: EntryResult,
 }
 
 // ---- One entry
