@@ -1,21 +1,19 @@
 -- What is answered from what is known after all of the list is what the packed pager answers on the packed list, or 4.
-use Prim.Native.Nat.{ℕ, zero, suc, _+_, _-_, _*_, _/_, _<_, _≤_, min}
-use mathlib.Core.Path.{_≡_, refl, sym, ap, _∙_}
+use Prim.Native.Nat.{ℕ, _+_, _-_, _*_, _<_}
+use mathlib.Core.Path.{_≡_, refl, _∙_}
 use mathlib.Core.Bool.{Bool, true, false}
-use mathlib.Core.List.{List, [], _∷_}
+use mathlib.Core.List.{List}
 use native.Mathlib.Omega.{arith}
 use borrow.Author.Tests.{eqb-true, eqb-false, ne-eqb, leb-true, leb-false}
 use lib.Dec.{eqb, leb}
 use lib.ListN.{length, getD}
-use Rattle.laws.specs.When.{when, _and_}
+use Rattle.laws.specs.When.{when}
 use Rattle.laws.proofs.Decide.{whens}
 use Rattle.lists.specs.Parts.{divCeil}
-use Rattle.asdu.specs.Entry.{entryOf, entryOctets}
 use Rattle.asdu.specs.declared.DirectoryEntry.{DirectoryEntry}
 use Rattle.asdu.specs.declared.FtError.the-variants.{IndexOutOfRange}
-use Rattle.asdu.specs.declared.EntryResult.{EntryResult}
 use Rattle.asdu.specs.declared.EntryResult.the-variants.{Ok, Err}
-use Rattle.pager.specs.Pages.{entriesOf, packedEntry, flagged, flaggedAnswer, sentEntry, pageCount, entryCount, pageAddress, pagesAnswer, pageAnswer, entryAnswer}
+use Rattle.pager.specs.Pages.{flaggedAnswer, sentEntry, pageCount, entryCount, pageAddress, pagesAnswer, pageAnswer, entryAnswer}
 use Rattle.pager_list.specs.declared.Seen.{Seen}
 use Rattle.pager_list.specs.Seen.{isAt, started, seenAll, pagesFrom, pageFrom, isLast, entryFrom}
 use Rattle.pager_list.specs.Listed.{allInRange, packedList, listedPages, listedPage, listedEntry}

@@ -1,5 +1,5 @@
 use borrow.Author.Needs.{needs}
-use Rattle.laws.proofs.Decide.{whens, decide}
+use Rattle.laws.proofs.Decide.{whens}
 use Rattle.pager_list.proofs.are_right.Statement.{statement}
 use Rattle.pager_list.proofs.are_right.Tie as tie
 
