@@ -313,6 +313,21 @@ fn row(kind: &str, count: &Count) {
     println!("{kind:38} {calls:>9} {same:>9} {fours:>9} {intended:>9} {own:>9} {outside:>9} {different:>9}");
 }
 
+/// Writes the random calls that a comparison makes.
+pub fn list(words: &[String]) {
+    let options = options(words);
+    let mut random = Random::new(options.seed);
+    let mut written = 0;
+    let mut out = std::io::BufWriter::new(std::io::stdout().lock());
+    while written < options.calls {
+        let case = generate::random(&mut random);
+        written += case.calls.len() as u64;
+        if write!(out, "# {}\n{}\n", case.kind, case.calls.join("\n")).is_err() {
+            return;
+        }
+    }
+}
+
 pub fn run(words: &[String]) {
     let mut comparison = Comparison {
         options: options(words),

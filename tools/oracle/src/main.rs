@@ -3,6 +3,7 @@
 //!     oracle answer [LIST...]     each call with the Rust's answer behind it; standard input without a list
 //!     oracle transfer             plays the transfer script on standard input, as the program `transfer` prints it
 //!     oracle table                document 01's table of sections, as the Rust gives it
+//!     oracle list ...             the random calls that a comparison with these options makes
 //!     oracle compare ...          the comparison (compare.rs)
 //!     oracle vectors ...          the stored vectors (vectors.rs)
 
@@ -61,8 +62,9 @@ fn main() {
         Some("answer") => answer(rest),
         Some("transfer") => parties::transfer(),
         Some("table") => machines::table(),
+        Some("list") => compare::list(rest),
         Some("compare") => compare::run(rest),
         Some("vectors") => vectors::write(rest),
-        _ => stop("answer, transfer, table, compare or vectors?"),
+        _ => stop("answer, transfer, table, list, compare or vectors?"),
     }
 }
