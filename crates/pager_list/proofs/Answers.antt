@@ -15,7 +15,7 @@ use Rattle.asdu.specs.declared.FtError.the-variants.{IndexOutOfRange}
 use Rattle.asdu.specs.declared.EntryResult.the-variants.{Ok, Err}
 use Rattle.pager.specs.Pages.{flaggedAnswer, sentEntry, pageCount, entryCount, pageAddress, pagesAnswer, pageAnswer, entryAnswer}
 use Rattle.pager_list.specs.declared.Seen.{Seen}
-use Rattle.pager_list.specs.Seen.{isAt, started, seenAll, pagesFrom, pageFrom, isLast, entryFrom}
+use Rattle.pager_list.specs.Seen.{isAt, seenNone, seenAll, pagesFrom, pageFrom, isLast, entryFrom}
 use Rattle.pager_list.specs.Listed.{allInRange, packedList, listedPages, listedPage, listedEntry}
 use Rattle.pager_list.proofs.Packed.{back, list-count, list-right, list-at, at-in-range}
 use Rattle.pager_list.proofs.Found.{seen-page, seen-index, seen-count, seen-right, at-yes, at-no, found-none, found-at}
@@ -23,17 +23,17 @@ use Rattle.pager_list.proofs.Values.{noEntry}
 
 module _ (es : List DirectoryEntry) (fits : length es < 18446744073709551616) (i j : ℕ) where
   abbrev s : Seen
-  s = seenAll (started i j) es
+  s = seenAll (seenNone i j) es
 
   abbrev o : List ℕ
   o = packedList es
 
   count-is : s .count ≡ length es
-  count-is = seen-count es (started i j) (omega arith) ∙ omega arith
+  count-is = seen-count es (seenNone i j) (omega arith) ∙ omega arith
 
   right-is : s .right ≡ allInRange es
   unfolding when
-  right-is = seen-right es (started i j)
+  right-is = seen-right es (seenNone i j)
 
   pages-go : (b : Bool) → allInRange es ≡ b → pagesFrom s ≡ listedPages es
   unfolding pagesFrom listedPages pagesAnswer pageCount
@@ -45,7 +45,7 @@ module _ (es : List DirectoryEntry) (fits : length es < 18446744073709551616) (i
 
   page-go : (ioa : ℕ) (b : Bool) → allInRange es ≡ b → pageFrom ioa s ≡ listedPage ioa es i
   unfolding pageFrom listedPage pageAnswer pageCount entryCount pageAddress
-  page-go ioa true e = simp (right-is, e, list-right es e, whens, count-is, list-count es, seen-page es (started i j))
+  page-go ioa true e = simp (right-is, e, list-right es e, whens, count-is, list-count es, seen-page es (seenNone i j))
   page-go ioa false e = simp (right-is, e, whens)
 
   pub page-law : (ioa : ℕ) → pageFrom ioa s ≡ listedPage ioa es i
@@ -55,13 +55,13 @@ module _ (es : List DirectoryEntry) (fits : length es < 18446744073709551616) (i
 
   -- where no entry of the list stands there
   found-no : ((k : ℕ) → k < length es → k ≡ i * 18 + j → j < 18 → ⊥) → s .found ≡ Err IndexOutOfRange
-  found-no none = found-none es (started i j) (omega arith) (λ k lo hi. at-no k i j (none k (omega arith)))
+  found-no none = found-none es (seenNone i j) (omega arith) (λ k lo hi. at-no k i j (none k (omega arith)))
 
   module _ (within : i * 18 + j < length es) (on-page : j < 18) where
     found-yes : s .found ≡ Ok (getD es (i * 18 + j) noEntry)
     found-yes =
         let here : 0 + (i * 18 + j) ≡ i * 18 + j = omega arith in
-        found-at es (started i j) (i * 18 + j) noEntry (omega arith) within (rw here (at-yes i j on-page)) (λ c lo. at-no c i j (λ same _. omega arith))
+        found-at es (seenNone i j) (i * 18 + j) noEntry (omega arith) within (rw here (at-yes i j on-page)) (λ c lo. at-no c i j (λ same _. omega arith))
 
     last-go : (b : Bool) → eqb (i * 18 + j + 1) (length es) ≡ b → isAt (length es - 1) i j ≡ b
     last-go true e =
@@ -73,7 +73,7 @@ module _ (es : List DirectoryEntry) (fits : length es < 18446744073709551616) (i
     unfolding isLast
     last-is =
         let some : eqb (length es) 0 ≡ false = ne-eqb (length es) 0 (λ none. omega arith) in
-        simp (count-is, some, whens, seen-page es (started i j), seen-index es (started i j)) (last-go (eqb (i * 18 + j + 1) (length es)) refl)
+        simp (count-is, some, whens, seen-page es (seenNone i j), seen-index es (seenNone i j)) (last-go (eqb (i * 18 + j + 1) (length es)) refl)
 
     sent-is : allInRange es ≡ true → flaggedAnswer (isLast s) (s .found) ≡ Ok (sentEntry o (i * 18 + j))
     unfolding sentEntry

@@ -14,20 +14,20 @@ use Rattle.asdu.specs.declared.DirectoryEntry.{DirectoryEntry}
 use Rattle.asdu.specs.declared.EntryResult.the-variants.{Ok}
 use Rattle.asdu.proofs.Range.{both}
 use Rattle.pager_list.specs.declared.Seen.{Seen}
-use Rattle.pager_list.specs.Seen.{isAt, stepped, seenAll}
+use Rattle.pager_list.specs.Seen.{isAt, seenMore, seenAll}
 use Rattle.pager_list.specs.Listed.{allInRange}
 
 pub seen-page : (es : List DirectoryEntry) (s : Seen) → seenAll s es .page ≡ s .page
 seen-page [] s = refl
-seen-page (e ∷ es) s = seen-page es (stepped s e)
+seen-page (e ∷ es) s = seen-page es (seenMore s e)
 
 pub seen-index : (es : List DirectoryEntry) (s : Seen) → seenAll s es .index ≡ s .index
 seen-index [] s = refl
-seen-index (e ∷ es) s = seen-index es (stepped s e)
+seen-index (e ∷ es) s = seen-index es (seenMore s e)
 
 pub seen-count : (es : List DirectoryEntry) (s : Seen) → s .count + length es < 18446744073709551616 → seenAll s es .count ≡ s .count + length es
 seen-count [] s h = omega arith
-seen-count (e ∷ es) s h = seen-count es (stepped s e) (omega arith) ∙ omega arith
+seen-count (e ∷ es) s h = seen-count es (seenMore s e) (omega arith) ∙ omega arith
 
 and-true : (b : Bool) → b ≡ (b and true)
 unfolding when
@@ -41,7 +41,7 @@ and-assoc false b c = refl
 
 pub seen-right : (es : List DirectoryEntry) (s : Seen) → seenAll s es .right ≡ (s .right and allInRange es)
 seen-right [] s = and-true (s .right)
-seen-right (e ∷ es) s = seen-right es (stepped s e) ∙ and-assoc (s .right) (entryInRange e) (allInRange es)
+seen-right (e ∷ es) s = seen-right es (seenMore s e) ∙ and-assoc (s .right) (entryInRange e) (allInRange es)
 
 -- ---- where an entry stands
 
@@ -70,7 +70,7 @@ pub found-none : (es : List DirectoryEntry) (s : Seen) → s .count + length es 
     → ((k : ℕ) → s .count ≤ k → k < s .count + length es → isAt k (s .page) (s .index) ≡ false) → seenAll s es .found ≡ s .found
 found-none [] s h none = refl
 found-none (e ∷ es) s h none =
-    found-none es (stepped s e) (omega arith) (λ k lo hi. none k (omega arith) (omega arith)) ∙ simp (none (s .count) (omega arith) (omega arith), whens)
+    found-none es (seenMore s e) (omega arith) (λ k lo hi. none k (omega arith) (omega arith)) ∙ simp (none (s .count) (omega arith) (omega arith), whens)
 
 pub found-at : (es : List DirectoryEntry) (s : Seen) (k : ℕ) (d : DirectoryEntry) → s .count + length es < 18446744073709551616 → k < length es → isAt (s .count + k) (s .page) (s .index) ≡ true
     → ((c : ℕ) → s .count + k < c → isAt c (s .page) (s .index) ≡ false) → seenAll s es .found ≡ Ok (getD es k d)
@@ -78,7 +78,7 @@ found-at [] s k d h within at after = absurd (omega arith)
 found-at (e ∷ es) s zero d h within at after =
     let here : s .count + 0 ≡ s .count = omega arith in
     let at-here : isAt (s .count) (s .page) (s .index) ≡ true = rw (← here) at in
-    found-none es (stepped s e) (omega arith) (λ c lo hi. after c (omega arith)) ∙ simp (at-here, whens)
+    found-none es (seenMore s e) (omega arith) (λ c lo hi. after c (omega arith)) ∙ simp (at-here, whens)
 found-at (e ∷ es) s (suc k) d h within at after =
-    let next : stepped s e .count + k ≡ s .count + suc k = omega arith in
-    found-at es (stepped s e) k d (omega arith) (omega arith) (rw next at) (λ c lo. after c (omega arith))
+    let next : seenMore s e .count + k ≡ s .count + suc k = omega arith in
+    found-at es (seenMore s e) k d (omega arith) (omega arith) (rw next at) (λ c lo. after c (omega arith))

@@ -91,7 +91,7 @@ module _ {M : Type 1} (𝓤 : URA M) (H : Heap 𝓤) (A : Atoms 𝓤) (W : Given
     (begins : ent 𝓤 (sem 𝓤 H A ftrue) (𝓣 .C f (vint w64 p ∷ vint w64 j ∷ []) After₁))
     (begun : (u : Val) (Γ : List (Item 𝓤)) (G : Goal 𝓤 H) → Soaks G → ((s : S .Denot) → Is S s (u ∷ []) → Leads 0 s → Seq (Go {0}) W Γ G) → Seq (Go {0}) W (raw (After₁ u) ∷ Γ) G)
     (steps : (i : ℕ) (s : S .Denot) (u : Val) → Is S s (u ∷ []) → Is R₀ (getD ys i other) (val (getD ys i other) ∷ []) → ent 𝓤 (sem 𝓤 H A ftrue) (𝓣 .C g (u ∷ val (getD ys i other) ∷ []) (After₂ i s u)))
-    (stepped : (i : ℕ) (s : S .Denot) (u : Val) → i < length ys → Leads i s → (u′ : Val) (Γ : List (Item 𝓤)) (G : Goal 𝓤 H) → Soaks G → ((s′ : S .Denot) → Is S s′ (u′ ∷ []) → Leads (i + 1) s′ → Seq (Go {0}) W Γ G) → Seq (Go {0}) W (raw (After₂ i s u u′) ∷ Γ) G)
+    (seenMore : (i : ℕ) (s : S .Denot) (u : Val) → i < length ys → Leads i s → (u′ : Val) (Γ : List (Item 𝓤)) (G : Goal 𝓤 H) → Soaks G → ((s′ : S .Denot) → Is S s′ (u′ ∷ []) → Leads (i + 1) s′ → Seq (Go {0}) W Γ G) → Seq (Go {0}) W (raw (After₂ i s u u′) ∷ Γ) G)
     -- of the exit
     (exits : (s : S .Denot) (u : Val) → Is S s (u ∷ []) → Leads (length ys) s → ent 𝓤 (⋆ 𝓤 H A (‵ (flft κ q) ∷ ‵ (ShrSlice (named 0) κ (single R₀ ε) .own (record { ptr = (b, o); name = γ; now = ys }) (sliceVal (b, o) (length ys) ∷ [])) ∷ [])) (Post u)) where
   abbrev R : RattleType
@@ -164,7 +164,7 @@ module _ {M : Type 1} (𝓤 : URA M) (H : Heap 𝓤) (A : Atoms 𝓤) (W : Given
         elem-back ! R q′ ys (t .i) other (val e ∷ []) b o within $ shuts-slice ! tt R q′ ys b o $ move ! (1 ∷ []) $ drop ! $
         -- [the token; the list; _9; …]: the call
         nothing ! $ calls-from ! (fmOf 𝓤 H (W .laws) 𝓣) (‵ ftrue) (t .u ∷ val e ∷ []) (After₂ (t .i) (t .s) (t .u)) (steps (t .i) (t .s) (t .u) (t .is) is-element)
-        (and-then ! (load ! (from ! (stop !)) (look ! 13 refl)) (and-then ! (load ! (from ! (stop !)) (look ! 3 refl)) (no-more !))) (λ u′. stepped (t .i) (t .s) (t .u) within (t .leads) u′ _ _ tt (λ s′ is′ leads′.
+        (and-then ! (load ! (from ! (stop !)) (look ! 13 refl)) (and-then ! (load ! (from ! (stop !)) (look ! 3 refl)) (no-more !))) (λ u′. seenMore (t .i) (t .s) (t .u) within (t .leads) u′ _ _ tt (λ s′ is′ leads′.
         land ! (from ! (stop !)) (store ! 12 refl (typedS s′ u′ is′)) $
         let t′ : At-turn = record { i = t .i + 1; s = s′; u = u′; within = add-one-le within; is = is′; leads = leads′ } in
         assigns-last ! (bin ! (load ! (from ! (stop !)) (look ! 10 refl)) (lit ! tt) (record { fits = lt-of-le-of-lt (t′ .within) fits })) (from ! (stop !)) (store ! 10 refl (tt, record { fits = lt-of-le-of-lt (t′ .within) fits })) $

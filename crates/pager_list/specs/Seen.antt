@@ -22,12 +22,12 @@ unfoldable pub isAt : ℕ → ℕ → ℕ → Bool
 isAt k i j = eqb (k / 18) i and eqb (k % 18) j
 
 -- before the first entry
-abbrev pub started : ℕ → ℕ → Seen
-started i j = record { page = i; index = j; count = 0; right = true; found = U.Err E.IndexOutOfRange }
+abbrev pub seenNone : ℕ → ℕ → Seen
+seenNone i j = record { page = i; index = j; count = 0; right = true; found = U.Err E.IndexOutOfRange }
 
 -- after one more; a count stays at the largest number
-abbrev pub stepped : Seen → DirectoryEntry → Seen
-stepped s e =
+abbrev pub seenMore : Seen → DirectoryEntry → Seen
+seenMore s e =
     record {
       page = s .page;
       index = s .index;
@@ -39,7 +39,7 @@ stepped s e =
 -- after all of a list
 abbrev pub seenAll : Seen → List DirectoryEntry → Seen
 seenAll s [] = s
-seenAll s (e ∷ es) = seenAll (stepped s e) es
+seenAll s (e ∷ es) = seenAll (seenMore s e) es
 
 -- ---- what is answered: 4, then 9
 

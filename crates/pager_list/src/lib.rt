@@ -19,7 +19,7 @@ ghost use Rattle.laws.specs.When.{_and_};
 ghost use Rattle.lists.specs.Parts.{divCeil};
 ghost use Rattle.asdu.specs.Entry.{entryInRange};
 ghost use Rattle.pager.specs.Pages.{flagged, flaggedAnswer};
-ghost use Rattle.pager_list.specs.Seen.{isAt, started, stepped, seenAll, isLast, pagesFrom, pageFrom, entryFrom};
+ghost use Rattle.pager_list.specs.Seen.{isAt, seenNone, seenMore, seenAll, isLast, pagesFrom, pageFrom, entryFrom};
 ghost use Rattle.pager_list.specs.Listed.{listedPages, listedPage, listedEntry};
 
 // What is known of the entries gone through so far: how many they are, whether each is in range, and
@@ -66,8 +66,8 @@ fn is_at(number: usize, page: usize, index: usize) -> bool
 }
 
 // Before the first entry.
-fn started(page: usize, index: usize) -> Seen
-    ensures { λ r. ⌜ r ≡ started page index ⌝ }
+fn seen_none(page: usize, index: usize) -> Seen
+    ensures { λ r. ⌜ r ≡ seenNone page index ⌝ }
 {
     Seen {
         page,
@@ -80,7 +80,7 @@ fn started(page: usize, index: usize) -> Seen
 
 // The entry that is found once this one is seen.
 fn found_by(seen: Seen, entry: DirectoryEntry) -> EntryResult
-    ensures { λ r. ⌜ r ≡ stepped seen entry .found ⌝ }
+    ensures { λ r. ⌜ r ≡ seenMore seen entry .found ⌝ }
 {
     if is_at(seen.count, seen.page, seen.index) {
         return EntryResult::Ok(entry);
@@ -89,8 +89,8 @@ fn found_by(seen: Seen, entry: DirectoryEntry) -> EntryResult
 }
 
 // After one more entry.
-fn stepped(seen: Seen, entry: DirectoryEntry) -> Seen
-    ensures { λ r. ⌜ r ≡ stepped seen entry ⌝ }
+fn seen_more(seen: Seen, entry: DirectoryEntry) -> Seen
+    ensures { λ r. ⌜ r ≡ seenMore seen entry ⌝ }
 {
     let found = found_by(seen, entry);
     let count = saturating_sum(seen.count, 1);
@@ -191,12 +191,12 @@ fn entry_from(seen: Seen) -> EntryResult
 
 // Goes through the list once.
 fn go_through(entries: &[DirectoryEntry], page: usize, index: usize) -> Seen
-    ensures { λ r. ⌜ r ≡ seenAll (started page index) (now (entries .entry)) ⌝ }
+    ensures { λ r. ⌜ r ≡ seenAll (seenNone page index) (now (entries .entry)) ⌝ }
 {
-    let mut seen = started(page, index);
+    let mut seen = seen_none(page, index);
     let mut i = 0;
     while i < entries.len() {
-        seen = stepped(seen, entries[i]);
+        seen = seen_more(seen, entries[i]);
         i += 1;
     }
     seen

@@ -37,7 +37,7 @@ use denote.Exit.{yes}
 use Rattle.asdu.specs.declared.DirectoryEntry.{DirectoryEntry}
 use Rattle.asdu.specs.declared.EntryResult.{EntryResult}
 use Rattle.pager_list.specs.declared.Seen.{Seen}
-use Rattle.pager_list.specs.Seen.{started, seenAll, entryFrom}
+use Rattle.pager_list.specs.Seen.{seenNone, seenAll, entryFrom}
 use Rattle.pager_list.specs.Listed.{listedEntry}
 use Rattle.asdu.proofs.DirectoryEntry as E
 use Rattle.asdu.proofs.EntryResult as N
@@ -92,7 +92,7 @@ module _ {M : Type 1} (𝓤 : URA M) (H : Heap 𝓤) (A : Atoms 𝓤) (W : Given
   Own = ShrSlice (named 0) κ E.the-row .own x (v ∷ [])
 
   abbrev last : Seen
-  last = seenAll (started p j) ys
+  last = seenAll (seenNone p j) ys
 
   -- what each callee's triple binds outside
   abbrev to-go : GoThrough 𝓤 H A mem run .Ghost

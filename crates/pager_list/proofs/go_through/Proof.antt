@@ -1,4 +1,4 @@
--- `pager_list::go_through` meets its contract. The borrow checker does not cover a reference to a list of structs, so its code is walked by hand (document 01, Form by location). The walk is `Walk.antt`'s, at any types; here are its types, what the calls of `started` and `stepped` take and give, and the exit.
+-- `pager_list::go_through` meets its contract. The borrow checker does not cover a reference to a list of structs, so its code is walked by hand (document 01, Form by location). The walk is `Walk.antt`'s, at any types; here are its types, what the calls of `seenNone` and `seenMore` take and give, and the exit.
 use mathlib.Core.Path.{_≡_, refl, sym, ap, _∙_, subst}
 use Prim.Native.Nat.{ℕ, suc, _+_, _<_, _^_}
 use native.Mathlib.Omega.{arith}
@@ -35,19 +35,19 @@ use denote.Triple.Walked.{says, Stays, stay-none, stay-none-slice, walkOf, goes-
 use denote.Exit.{yes}
 use Rattle.asdu.specs.declared.DirectoryEntry.{DirectoryEntry}
 use Rattle.pager_list.specs.declared.Seen.{Seen}
-use Rattle.pager_list.specs.Seen.{started, stepped, seenAll}
+use Rattle.pager_list.specs.Seen.{seenNone, seenMore, seenAll}
 use Rattle.asdu.proofs.DirectoryEntry as E
 use Rattle.asdu.proofs.DirectoryEntry.Laws as E′
 use Rattle.pager_list.proofs.Seen as S
 use Rattle.pager_list.proofs.Seen.Laws as S′
-use Rattle.pager_list.proofs.started as begin
-use Rattle.pager_list.proofs.started.Symbol as begin-def
-use Rattle.pager_list.proofs.started.Symbol.{name as #begin}
-use Rattle.pager_list.proofs.started.Met as begin-thm
-use Rattle.pager_list.proofs.stepped as step
-use Rattle.pager_list.proofs.stepped.Symbol as step-def
-use Rattle.pager_list.proofs.stepped.Symbol.{name as #step}
-use Rattle.pager_list.proofs.stepped.Met as step-thm
+use Rattle.pager_list.proofs.seen_none as begin
+use Rattle.pager_list.proofs.seen_none.Symbol as begin-def
+use Rattle.pager_list.proofs.seen_none.Symbol.{name as #begin}
+use Rattle.pager_list.proofs.seen_none.Met as begin-thm
+use Rattle.pager_list.proofs.seen_more as step
+use Rattle.pager_list.proofs.seen_more.Symbol as step-def
+use Rattle.pager_list.proofs.seen_more.Symbol.{name as #step}
+use Rattle.pager_list.proofs.seen_more.Met as step-thm
 use Rattle.pager_list.proofs.Drops.{drop-next, drop-end}
 use Rattle.pager_list.proofs.Values.{noEntry, entry-val, entry-tells, entry-typed, entry-copy, entry-makes, seen-typed, seen-makes}
 use Rattle.pager_list.proofs.Walk.{codeAt, walk}
@@ -77,10 +77,10 @@ function-is = refl
 abbrev Leads : List DirectoryEntry → Seen → ℕ → Seen → Type 0
 Leads ys last i s = seenAll s (drop i ys) ≡ last
 
-leads-on : (ys : List DirectoryEntry) (last : Seen) (i : ℕ) (s s′ : Seen) → i < length ys → Leads ys last i s → s′ ≡ stepped s (getD ys i noEntry) → Leads ys last (i + 1) s′
+leads-on : (ys : List DirectoryEntry) (last : Seen) (i : ℕ) (s s′ : Seen) → i < length ys → Leads ys last i s → s′ ≡ seenMore s (getD ys i noEntry) → Leads ys last (i + 1) s′
 leads-on ys last i s s′ h leads e =
     let next : i + 1 ≡ suc i = omega arith in
-    ap (λ (t : Seen). seenAll t (drop (i + 1) ys)) e ∙ ap (λ (k : ℕ). seenAll (stepped s (getD ys i noEntry)) (drop k ys)) next ∙ sym (ap (λ (l : List DirectoryEntry). seenAll s l) (drop-next ys i noEntry h)) ∙ leads
+    ap (λ (t : Seen). seenAll t (drop (i + 1) ys)) e ∙ ap (λ (k : ℕ). seenAll (seenMore s (getD ys i noEntry)) (drop k ys)) next ∙ sym (ap (λ (l : List DirectoryEntry). seenAll s l) (drop-next ys i noEntry h)) ∙ leads
 
 leads-to : (ys : List DirectoryEntry) (last s : Seen) → Leads ys last (length ys) s → s ≡ last
 leads-to ys last s leads = sym (ap (λ (l : List DirectoryEntry). seenAll s l) (drop-end ys)) ∙ leads
@@ -109,7 +109,7 @@ module _ {M : Type 1} (𝓤 : URA M) (H : Heap 𝓤) (A : Atoms 𝓤) (W : Given
   Own = ShrSlice (named 0) κ E.the-row .own x (v ∷ [])
 
   abbrev last : Seen
-  last = seenAll (started p j) ys
+  last = seenAll (seenNone p j) ys
 
   -- what each callee's triple binds outside
   abbrev to-begin : Begin 𝓤 H A mem run .Ghost
@@ -129,23 +129,23 @@ module _ {M : Type 1} (𝓤 : URA M) (H : Heap 𝓤) (A : Atoms 𝓤) (W : Given
       move ! (1 ∷ 0 ∷ []) $ join ! $ frame ! $ done !
 
   -- what is known once each has returned
-  said-begin : (s : Seen) → ent 𝓤 (ensured 𝓤 H A begin.ended (begin.clauses 𝓤 H A mem run) tt (p, (j, tt)) tt s) (fact 𝓤 (s ≡ started p j))
-  said-begin s = exE 𝓤 _ (λ ws. snd∗ 𝓤 (sem 𝓤 H A (lasts begin.ended tt (p, (j, tt)) ws)) (fact 𝓤 (s ≡ started p j)))
+  said-begin : (s : Seen) → ent 𝓤 (ensured 𝓤 H A begin.ended (begin.clauses 𝓤 H A mem run) tt (p, (j, tt)) tt s) (fact 𝓤 (s ≡ seenNone p j))
+  said-begin s = exE 𝓤 _ (λ ws. snd∗ 𝓤 (sem 𝓤 H A (lasts begin.ended tt (p, (j, tt)) ws)) (fact 𝓤 (s ≡ seenNone p j)))
 
-  said-step : (i : ℕ) (s s′ : Seen) → ent 𝓤 (ensured 𝓤 H A step.ended (step.clauses 𝓤 H A mem run) tt (s, (getD ys i noEntry, tt)) tt s′) (fact 𝓤 (s′ ≡ stepped s (getD ys i noEntry)))
-  said-step i s s′ = exE 𝓤 _ (λ ws. snd∗ 𝓤 (sem 𝓤 H A (lasts step.ended tt (s, (getD ys i noEntry, tt)) ws)) (fact 𝓤 (s′ ≡ stepped s (getD ys i noEntry))))
+  said-step : (i : ℕ) (s s′ : Seen) → ent 𝓤 (ensured 𝓤 H A step.ended (step.clauses 𝓤 H A mem run) tt (s, (getD ys i noEntry, tt)) tt s′) (fact 𝓤 (s′ ≡ seenMore s (getD ys i noEntry)))
+  said-step i s s′ = exE 𝓤 _ (λ ws. snd∗ 𝓤 (sem 𝓤 H A (lasts step.ended tt (s, (getD ys i noEntry, tt)) ws)) (fact 𝓤 (s′ ≡ seenMore s (getD ys i noEntry))))
 
   begun : (u : Val) (Γ : List (Item 𝓤)) (G : Goal 𝓤 H) → Soaks G → ((s : Seen) → Is S.the-row s (u ∷ []) → Leads ys last 0 s → Seq (Go {0}) W Γ G) → Seq (Go {0}) W (raw (Begin 𝓤 H A mem run .post to-begin u) ∷ Γ) G
   begun u Γ G z then =
       use1 W (later (some (λ (s : Seen). (‵ ftrue ⊛ ‵ (S.the-row .own s (u ∷ []))) ⊛ raw (ensured 𝓤 H A begin.ended (begin.clauses 𝓤 H A mem run) tt (p, (j, tt)) tt s)))) (id⊢ 𝓤 _) $ await ! z $ pick ! (λ s.
-      split ! $ move ! (1 ∷ []) $ use1 W (raw (fact 𝓤 (s ≡ started p j))) (said-begin s) $ heard ! (s ≡ started p j) (λ e. split ! $ leave ! $
+      split ! $ move ! (1 ∷ []) $ use1 W (raw (fact 𝓤 (s ≡ seenNone p j))) (said-begin s) $ heard ! (s ≡ seenNone p j) (λ e. split ! $ leave ! $
       peeks ! S.the-row (Is S.the-row) (shows 𝓤 H A S.the-row) s (u ∷ []) (λ is. leave ! $ then s is (ap (λ (t : Seen). seenAll t ys) e))))
 
   gone-on : (i : ℕ) (s : Seen) (u : Val) → i < length ys → Leads ys last i s → (u′ : Val) (Γ : List (Item 𝓤)) (G : Goal 𝓤 H) → Soaks G
       → ((s′ : Seen) → Is S.the-row s′ (u′ ∷ []) → Leads ys last (i + 1) s′ → Seq (Go {0}) W Γ G) → Seq (Go {0}) W (raw (Step 𝓤 H A mem run .post (to-step i s u) u′) ∷ Γ) G
   gone-on i s u h leads u′ Γ G z then =
       use1 W (later (some (λ (s′ : Seen). (‵ ftrue ⊛ ‵ (S.the-row .own s′ (u′ ∷ []))) ⊛ raw (ensured 𝓤 H A step.ended (step.clauses 𝓤 H A mem run) tt (s, (getD ys i noEntry, tt)) tt s′)))) (id⊢ 𝓤 _) $ await ! z $ pick ! (λ s′.
-      split ! $ move ! (1 ∷ []) $ use1 W (raw (fact 𝓤 (s′ ≡ stepped s (getD ys i noEntry)))) (said-step i s s′) $ heard ! (s′ ≡ stepped s (getD ys i noEntry)) (λ e. split ! $ leave ! $
+      split ! $ move ! (1 ∷ []) $ use1 W (raw (fact 𝓤 (s′ ≡ seenMore s (getD ys i noEntry)))) (said-step i s s′) $ heard ! (s′ ≡ seenMore s (getD ys i noEntry)) (λ e. split ! $ leave ! $
       peeks ! S.the-row (Is S.the-row) (shows 𝓤 H A S.the-row) s′ (u′ ∷ []) (λ is. leave ! $ then s′ is (leads-on ys last i s s′ h leads e))))
 
   exits : (s : Seen) (u : Val) → Is S.the-row s (u ∷ []) → Leads ys last (length ys) s → ent 𝓤 (⋆ 𝓤 H A (‵ (flft κ q) ∷ ‵ Own ∷ [])) (Post u)
@@ -190,5 +190,5 @@ go-through-spec 𝓤 H 𝓜 𝓖 𝓡 =
     entered 𝓤 H (tripleOf 𝓤 H (𝓖 .A) self.signature (self.spec 𝓤 H (𝓖 .A) (𝓜 .mem) (𝓡 .run)))
     (tables 𝓤 H 𝓜 𝓡 code.env .C) (tables 𝓤 H 𝓜 𝓡 code.env .Λ) #self code.function (code.unfolded 𝓤 H 𝓜 𝓡)
     (self-meets 𝓤 H (𝓖 .A) (givenOf 𝓤 H 𝓜 𝓖) (𝓜 .mem) (𝓡 .run) (tablesOf 𝓤 H 𝓜 (tables 𝓤 H 𝓜 𝓡 code.env))
-    (cited 𝓤 H (Begin 𝓤 H (𝓖 .A) (𝓜 .mem) (𝓡 .run)) 𝓜 𝓡 code.env #begin begin-def.routine code.calls-pager-list·started (begin-thm.met 𝓤 H 𝓜 𝓖 𝓡))
-    (cited 𝓤 H (Step 𝓤 H (𝓖 .A) (𝓜 .mem) (𝓡 .run)) 𝓜 𝓡 code.env #step step-def.routine code.calls-pager-list·stepped (step-thm.met 𝓤 H 𝓜 𝓖 𝓡)))
+    (cited 𝓤 H (Begin 𝓤 H (𝓖 .A) (𝓜 .mem) (𝓡 .run)) 𝓜 𝓡 code.env #begin begin-def.routine code.calls-pager-list·seen-none (begin-thm.met 𝓤 H 𝓜 𝓖 𝓡))
+    (cited 𝓤 H (Step 𝓤 H (𝓖 .A) (𝓜 .mem) (𝓡 .run)) 𝓜 𝓡 code.env #step step-def.routine code.calls-pager-list·seen-more (step-thm.met 𝓤 H 𝓜 𝓖 𝓡)))

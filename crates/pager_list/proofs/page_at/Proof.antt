@@ -38,7 +38,7 @@ use denote.Exit.{yes}
 use Rattle.asdu.specs.declared.DirectoryEntry.{DirectoryEntry}
 use Rattle.pager.specs.declared.PageResult.{PageResult}
 use Rattle.pager_list.specs.declared.Seen.{Seen}
-use Rattle.pager_list.specs.Seen.{started, seenAll, pageFrom}
+use Rattle.pager_list.specs.Seen.{seenNone, seenAll, pageFrom}
 use Rattle.pager_list.specs.Listed.{listedPage}
 use Rattle.asdu.proofs.DirectoryEntry as E
 use Rattle.pager.proofs.PageResult as N
@@ -103,7 +103,7 @@ module _ {M : Type 1} (𝓤 : URA M) (H : Heap 𝓤) (A : Atoms 𝓤) (W : Given
   Own = ShrSlice (named 0) κ E.the-row .own x (v ∷ [])
 
   abbrev last : Seen
-  last = seenAll (started i 0) ys
+  last = seenAll (seenNone i 0) ys
 
   -- what each callee's triple binds outside
   abbrev to-go : GoThrough 𝓤 H A mem run .Ghost

@@ -38,7 +38,7 @@ use denote.Exit.{yes}
 use Rattle.asdu.specs.declared.DirectoryEntry.{DirectoryEntry}
 use Rattle.pager.specs.declared.PagesResult.{PagesResult}
 use Rattle.pager_list.specs.declared.Seen.{Seen}
-use Rattle.pager_list.specs.Seen.{started, seenAll, pagesFrom}
+use Rattle.pager_list.specs.Seen.{seenNone, seenAll, pagesFrom}
 use Rattle.pager_list.specs.Listed.{listedPages}
 use Rattle.asdu.proofs.DirectoryEntry as E
 use Rattle.pager.proofs.PagesResult as N
@@ -102,7 +102,7 @@ module _ {M : Type 1} (𝓤 : URA M) (H : Heap 𝓤) (A : Atoms 𝓤) (W : Given
   Own = ShrSlice (named 0) κ E.the-row .own x (v ∷ [])
 
   abbrev last : Seen
-  last = seenAll (started 0 0) ys
+  last = seenAll (seenNone 0 0) ys
 
   -- what each callee's triple binds outside
   abbrev to-go : GoThrough 𝓤 H A mem run .Ghost

@@ -1,9 +1,9 @@
 use borrow.Author.Needs.{needs}
-use Rattle.pager_list.proofs.stepped.Statement.{statement}
-use Rattle.pager_list.proofs.stepped.Tie as tie
+use Rattle.pager_list.proofs.seen_more.Statement.{statement}
+use Rattle.pager_list.proofs.seen_more.Tie as tie
 
-pub stepped-spec : {M : Type 1} → statement M
-stepped-spec =
+pub seen-more-spec : {M : Type 1} → statement M
+seen-more-spec =
     tie.close
     (tie.spec
     (λ c κs. search needs)
