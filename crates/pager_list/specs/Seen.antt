@@ -1,4 +1,4 @@
--- What is known of the entries gone through, one after the other, and what is answered from it.
+-- What is known of the entries gone through, one after the other, and what is answered from it. Only the functions behind the pager cite it; what the pager answers is in Listed.antt.
 use Prim.Native.Nat.{ℕ, _+_, _-_, _*_, _/_, _%_, min}
 use mathlib.Core.Bool.{Bool, true, false}
 use mathlib.Core.List.{List, [], _∷_}
