@@ -3,6 +3,7 @@ use crate::CallResult;
 use crate::DirectoryCall;
 use crate::DirectoryStart;
 use crate::StartAnswer;
+use crate::stored::STORED;
 use asdu::FtError;
 use asdu::Nof;
 use asdu::Nos;
@@ -56,7 +57,7 @@ impl DirectoryCall {
     {
         let procedure = self.procedure;
         if procedure.is_settled() {
-            return self.held <= store.len() / 17;
+            return self.held <= store.len() / STORED;
         }
         false
     }
