@@ -35,7 +35,7 @@ use Rattle.exchange.proofs.Budget.{stays}
 use Rattle.twoparty.specs.Party.{stationOf, startedParty, advanced}
 use Rattle.twoparty.specs.Shown.{firstOf}
 use Rattle.twoparty.proofs.Standing.{next-shown}
-use Rattle.run.specs.Loop.{Ran, isOver, whole, ranOn}
+use Rattle.run.specs.Loop.{Ran, isOver, whole, usedUp, ranOn}
 use Rattle.radio.specs.Radio.{firstSection, allHaveOctets}
 use Rattle.run.specs.Run.{exchangeOf, ending}
 use Rattle.twoparty.specs.declared.Settings.{Settings}
@@ -53,7 +53,7 @@ module _ (file damage : List ℕ) (ca count : ℕ) (few : count ≤ 255) (none :
       → ranOn budget (length ps) t file damage store ≡ ending (run file (ownHeaders ca) budget (standsFor file damage ca count t store radio ps u v))
 
   spends : Ends zero
-  unfolding Ends isOver when
+  unfolding Ends usedUp isOver when
   spends t store radio ps u v tuned fits = by-sight (sight file damage ca count few none t store radio ps u v tuned fits)
     where
       by-sight : Sight file damage ca count t store radio ps u v → ranOn zero (length ps) t file damage store ≡ ending (standsFor file damage ca count t store radio ps u v)
@@ -61,7 +61,7 @@ module _ (file damage : List ℕ) (ca count : ℕ) (few : count ≤ 255) (none :
       by-sight (going x rest more next) = rw (next-shown t file (fits .agrees), more)
 
   goes-on : (budget : ℕ) → Ends budget → Ends (suc budget)
-  unfolding Ends isOver when
+  unfolding Ends usedUp isOver when
   goes-on budget later t store radio ps u v tuned fits = by-sight (sight file damage ca count few none t store radio ps u v tuned fits)
     where
       by-sight : Sight file damage ca count t store radio ps u v

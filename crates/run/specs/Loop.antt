@@ -28,9 +28,13 @@ pub record Ran : Type 0 where
 abbrev pub whole : TwoParty → ℕ → RunResult
 whole t frames = Whole (t .receiver .kept) frames
 
+-- with no more of the budget left: whole where no frame is, else spent
+unfoldable pub usedUp : TwoParty → List ℕ → ℕ → RunResult
+usedUp t file frames = when (isOver t file) (whole t frames) (Spent frames)
+
 -- with so much of the budget left, after so many frames
 abbrev pub ranOn : ℕ → ℕ → TwoParty → List ℕ → List ℕ → List ℕ → Ran
-ranOn zero frames t file damage store = record { result = when (isOver t file) (whole t frames) (Spent frames); store = store }
+ranOn zero frames t file damage store = record { result = usedUp t file frames; store = store }
 ranOn (suc budget) frames t file damage store =
     when (isOver t file) (record { result = whole t frames; store = store })
     (ranOn budget (frames + 1) (advanced t file damage store .party) file damage (advanced t file damage store .store))

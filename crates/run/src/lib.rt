@@ -1,13 +1,17 @@
 // The two-party run (document 01, A transfer script): frame after frame, until none is left or the next
 // one would exceed the budget.
 use asdu::FtError;
+use provide::FrameResult;
+use receive::Receiver;
 use twoparty::NextFrame;
+use twoparty::Queue;
 use twoparty::Settings;
 use twoparty::TwoParty;
 use twoparty::TwoPartyResult;
 ghost use mathlib.Core.Path.{_≡_};
-ghost use Rattle.run.specs.Loop.{isNothing, isOver, whole, ranOn};
+ghost use Rattle.run.specs.Loop.{isNothing, usedUp, ranOn};
 ghost use Rattle.run.specs.Run.{twoParty};
+ghost use Rattle.run.specs.declared.RunResult.the-variants.{Whole};
 
 // How a run ended, after so many frames: whole, with so many octets accepted, or with its budget spent.
 pub enum RunResult {
@@ -27,41 +31,93 @@ fn is_nothing(next: NextFrame) -> bool
     }
 }
 
-// No frame is left.
-fn is_over(party: TwoParty, file: &[u8]) -> bool
-    ensures { λ r. ⌜ r ≡ isOver party (now (file .entry)) ⌝ }
-{
-    is_nothing(party.next_frame(file))
-}
-
 // It ended whole after so many frames.
-fn whole(party: TwoParty, frames: usize) -> RunResult
-    ensures { λ r. ⌜ r ≡ whole party frames ⌝ }
+fn whole(receiver: Receiver, frames: usize) -> RunResult
+    ensures { λ r. ⌜ r ≡ Whole (receiver .kept) frames ⌝ }
 {
-    let receiver = party.receiver;
     RunResult::Whole {
         length: receiver.kept,
         frames,
     }
 }
 
-// With this budget from here on: spent where the next frame would exceed it, else whole.
+// It ended with its budget used up: whole where no frame is left, else spent.
+fn used_up(party: TwoParty, file: &[u8], frames: usize) -> RunResult
+    ensures { λ r. ⌜ r ≡ usedUp party (now (file .entry)) frames ⌝ }
+{
+    if is_nothing(party.next_frame(file)) {
+        return whole(party.receiver, frames);
+    }
+    RunResult::Spent { frames }
+}
+
+// With this budget from here on: spent where the next frame would exceed it, else whole. The parts of
+// the transfer's record go through the loop one by one, so that a segment moves no more than the
+// Receiver's; and each frame is made once.
 fn run_on(start: TwoParty, file: &[u8], damage: &[u8], store: &mut [u8], budget: usize) -> RunResult
     ensures { λ r. ⌜ (r ≡ ranOn budget 0 start (now (file .entry)) (now (damage .entry)) (now (store .entry)) .result)
         × (now (store .exit) ≡ ranOn budget 0 start (now (file .entry)) (now (damage .entry)) (now (store .entry)) .store) ⌝ }
 {
-    let mut party = start;
+    let mut provider = start.provider;
+    let mut receiver = start.receiver;
+    let mut queue = start.queue;
+    let mut radio = start.radio;
     let mut frames = 0;
     loop {
-        if is_over(party, file) {
-            return whole(party, frames);
-        }
         let left = budget - frames;
         if left == 0 {
-            return RunResult::Spent { frames };
+            let party = TwoParty {
+                provider,
+                receiver,
+                queue,
+                radio,
+            };
+            return used_up(party, file, frames);
         }
-        party = party.advance(file, damage, store);
-        frames += 1;
+        match queue {
+            Queue::Empty => return whole(receiver, frames),
+            Queue::Receiver => {
+                if !provider.agrees(file) {
+                    return whole(receiver, frames);
+                }
+                let step = twoparty::hand_provider(provider, receiver, file);
+                let answer = step.answer;
+                provider = step.provider;
+                queue = twoparty::replied(radio, answer);
+                radio = radio.after_answer(damage, answer);
+                frames += 1;
+                continue;
+            }
+            Queue::Provider {
+                reply,
+                next,
+                damaged,
+            } => match provider.reply_frame(file, reply, next) {
+                FrameResult::Ok(frame) => {
+                    let step = twoparty::hand_receiver(
+                        provider,
+                        receiver,
+                        file,
+                        store,
+                        reply,
+                        next,
+                        damaged,
+                        frame,
+                    );
+                    let answer = step.answer;
+                    let rest = Queue::Provider {
+                        reply,
+                        next: next + 1,
+                        damaged,
+                    };
+                    receiver = step.receiver;
+                    queue = rest.asked(answer);
+                    frames += 1;
+                    continue;
+                }
+                FrameResult::Err(_) => return whole(receiver, frames),
+            },
+        }
     }
 }
 

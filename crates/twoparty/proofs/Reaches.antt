@@ -107,3 +107,8 @@ module _ (p : Provider) (file : List ℕ) (agreed : fileAgrees p file ≡ true) 
 pub frame-below : (p : Provider) (file : List ℕ) (r : Reply) (i : ℕ) (f : Frame) → replyFrame p file r i ≡ Ok f → i ≤ 0xFFFFFF
 unfolding replyFrame
 frame-below p file r i f h = let q = found (fileAgrees p file) _ (frameAt p file r i) f h in frame-at-below p file (q .0) r i f (q .1)
+
+-- a frame is found only where the record and the file agree
+pub frame-agreed : (p : Provider) (file : List ℕ) (r : Reply) (i : ℕ) (f : Frame) → replyFrame p file r i ≡ Ok f → fileAgrees p file ≡ true
+unfolding replyFrame
+frame-agreed p file r i f h = found (fileAgrees p file) _ (frameAt p file r i) f h .0

@@ -117,6 +117,10 @@ replied r (P.FileRejected afq) = Q.Empty
 replied r (P.Refused cause mirror) = Q.Empty
 replied r (P.Err e) = Q.Empty
 
+-- the Provider is handed the Receiver's frame
+abbrev pub providerHanded : Provider → Receiver → List ℕ → ProviderStep
+providerHanded p r file = provide p file (headerBy (r .procedure) (awaited r)) U.Nothing (D.Frame (awaited r)) []
+
 -- the Provider has answered
 abbrev pub afterProvider : TwoParty → List ℕ → ProviderStep → TwoParty
 afterProvider t damage s =
@@ -127,24 +131,25 @@ afterProvider t damage s =
       radio = afterAnswer damage (t .radio) (s .answer);
     }
 
--- the Provider is handed the Receiver's frame
 abbrev pub toProvider : TwoParty → List ℕ → List ℕ → TwoParty
-toProvider t file damage =
-    afterProvider t damage
-    (provide (t .provider) file (headerBy (t .receiver .procedure) (awaited (t .receiver))) U.Nothing (D.Frame (awaited (t .receiver))) [])
-
--- the Receiver has answered; `rest` is the queue behind the frame
-abbrev pub heard : TwoParty → Queue → ReceiverStep → TwoParty
-heard t rest s = record { provider = t .provider; receiver = s .receiver; queue = asked rest (s .answer); radio = t .radio }
-
-abbrev pub afterReceiver : TwoParty → Queue → Outcome → Moved
-afterReceiver t rest o = record { party = heard t rest (o .step); store = o .store }
+toProvider t file damage = afterProvider t damage (providerHanded (t .provider) (t .receiver) file)
 
 -- the Receiver is handed the Provider's frame, with what arrives beside it
+abbrev pub receiverHanded : Provider → Receiver → List ℕ → List ℕ → Reply → ℕ → Bool → Frame → Outcome
+receiverHanded p r file store reply i damaged f =
+    receive r store (headerBy (p .procedure) f) U.Nothing (D.Frame f) (arriving damaged i (payloadOf file (replyPayload p file reply i)))
+
+-- the Receiver has answered; `rest` is the queue behind the frame
+abbrev pub afterReceiver : TwoParty → Queue → Outcome → Moved
+afterReceiver t rest o =
+    record {
+      party = record { provider = t .provider; receiver = o .step .receiver; queue = asked rest (o .step .answer); radio = t .radio };
+      store = o .store;
+    }
+
 abbrev pub toReceiver : TwoParty → List ℕ → List ℕ → Reply → ℕ → Bool → FrameResult → Moved
 toReceiver t file store reply i damaged (F.Ok f) =
-    afterReceiver t (Q.Provider reply (i + 1) damaged)
-    (receive (t .receiver) store (headerBy (t .provider .procedure) f) U.Nothing (D.Frame f) (arriving damaged i (payloadOf file (replyPayload (t .provider) file reply i))))
+    afterReceiver t (Q.Provider reply (i + 1) damaged) (receiverHanded (t .provider) (t .receiver) file store reply i damaged f)
 toReceiver t file store reply i damaged (F.Err e) = still t store
 
 -- the queue's first frame passes; an empty queue stays

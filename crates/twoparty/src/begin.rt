@@ -47,7 +47,7 @@ impl Settings {
 
 impl Queue {
     // What is on its way after the Receiver's answer: the rest, or the one frame that it sends.
-    pub(crate) fn asked(self, answer: ReceiverAnswer) -> Queue
+    pub fn asked(self, answer: ReceiverAnswer) -> Queue
         ensures { λ r. ⌜ r ≡ asked self answer ⌝ }
     {
         if answer.sends() {

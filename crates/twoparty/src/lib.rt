@@ -14,6 +14,9 @@ use provide::Provider;
 use provide::Reply;
 use radio::Radio;
 use receive::Receiver;
+pub use step::hand_provider;
+pub use step::hand_receiver;
+pub use step::replied;
 
 // What a run is given beside file, damage and store.
 pub struct Settings {

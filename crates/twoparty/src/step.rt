@@ -26,15 +26,14 @@ ghost use mathlib.Core.Path.{_≡_};
 ghost use lib.ListN.{length};
 ghost use Rattle.laws.specs.When.{when};
 ghost use Rattle.asdu.specs.declared.UnknownField.the-variants as U;
-ghost use Rattle.ft.specs.declared.Received.the-variants as D;
 ghost use Rattle.provide.specs.Replies.{replyFrame, replyPayload, payloadOf};
 ghost use Rattle.provide.specs.declared.FrameResult.the-variants as F;
 ghost use Rattle.receive.specs.Answers.{receive};
 ghost use Rattle.exchange.specs.Damaging.{raised};
-ghost use Rattle.twoparty.specs.Party.{fromReply, first, nextFrame, replied, afterProvider, toProvider, heard, toReceiver, advanced, partyStepped};
+ghost use Rattle.twoparty.specs.Party.{fromReply, first, nextFrame, replied, providerHanded, receiverHanded, toProvider, toReceiver, advanced, partyStepped};
 
 // What the Provider's answer puts into the queue.
-fn replied(radio: Radio, answer: ProviderAnswer) -> Queue
+pub fn replied(radio: Radio, answer: ProviderAnswer) -> Queue
     ensures { λ r. ⌜ r ≡ replied radio answer ⌝ }
 {
     match answer {
@@ -74,25 +73,82 @@ fn payload_of(provider: Provider, file: &[u8], reply: Reply, index: usize) -> &[
     }
 }
 
+// The frame is handed to the Receiver with a payload that the radio hits: its first octet raised, in a
+// copy, since the file is the Provider's.
+fn hand_raised(
+    receiver: Receiver,
+    store: &mut [u8],
+    header: Header,
+    received: Received,
+    payload: &[u8],
+) -> ReceiverStep
+    requires { ⌜ length (now payload) ≤ 240 ⌝ }
+    ensures { λ r. ⌜ (r ≡ receive receiver (now (store .entry)) header U.Nothing received (raised (now (payload .entry))) .step)
+        × (now (store .exit) ≡ receive receiver (now (store .entry)) header U.Nothing received (raised (now (payload .entry))) .store) ⌝ }
+{
+    let n = payload.len();
+    let mut copy = [0u8; 240];
+    noise::raise(payload, &mut copy);
+    receiver.on_asdu(store, header, UnknownField::Nothing, received, &copy[0..n])
+}
+
 // The frame is handed to the Receiver with what arrives beside it: the payload, its first octet raised
 // where the radio hits it.
 fn hand_over(
     receiver: Receiver,
     store: &mut [u8],
     header: Header,
-    frame: Frame,
+    received: Received,
     payload: &[u8],
     hit: bool,
 ) -> ReceiverStep
     requires { ⌜ length (now payload) ≤ 240 ⌝ }
-    ensures { λ r. ⌜ (r ≡ receive receiver (now (store .entry)) header U.Nothing (D.Frame frame) (when hit (raised (now (payload .entry))) (now (payload .entry))) .step)
-        × (now (store .exit) ≡ receive receiver (now (store .entry)) header U.Nothing (D.Frame frame) (when hit (raised (now (payload .entry))) (now (payload .entry))) .store) ⌝ }
+    ensures { λ r. ⌜ (r ≡ receive receiver (now (store .entry)) header U.Nothing received (when hit (raised (now (payload .entry))) (now (payload .entry))) .step)
+        × (now (store .exit) ≡ receive receiver (now (store .entry)) header U.Nothing received (when hit (raised (now (payload .entry))) (now (payload .entry))) .store) ⌝ }
 {
-    let n = payload.len();
-    let mut copy = [0u8; 240];
-    noise::arrive(payload, hit, &mut copy);
+    if hit {
+        return hand_raised(receiver, store, header, received, payload);
+    }
+    receiver.on_asdu(store, header, UnknownField::Nothing, received, payload)
+}
+
+// The frame at index `next` of the Provider's reply is handed to the Receiver, under the Provider's own
+// header and with what arrives beside it.
+pub fn hand_receiver(
+    provider: Provider,
+    receiver: Receiver,
+    file: &[u8],
+    store: &mut [u8],
+    reply: Reply,
+    next: usize,
+    damaged: bool,
+    frame: Frame,
+) -> ReceiverStep
+    ensures { λ r. ⌜ (r ≡ receiverHanded provider receiver (now (file .entry)) (now (store .entry)) reply next damaged frame .step)
+        × (now (store .exit) ≡ receiverHanded provider receiver (now (file .entry)) (now (store .entry)) reply next damaged frame .store) ⌝ }
+{
+    let payload = payload_of(provider, file, reply, next);
+    let header = build::header_of(provider.procedure.ca, provider.procedure.org, frame);
+    let hit = noise::is_hit(damaged, next);
+    hand_over(
+        receiver,
+        store,
+        header,
+        Received::Frame(frame),
+        payload,
+        hit,
+    )
+}
+
+// The Provider is handed the Receiver's frame, the one whose answer its record awaits, under the
+// Receiver's own header.
+pub fn hand_provider(provider: Provider, receiver: Receiver, file: &[u8]) -> ProviderStep
+    ensures { λ r. ⌜ r ≡ providerHanded provider receiver (now (file .entry)) ⌝ }
+{
+    let frame = receiver.awaited();
+    let header = build::header_of(receiver.procedure.ca, receiver.procedure.org, frame);
     let received = Received::Frame(frame);
-    receiver.on_asdu(store, header, UnknownField::Nothing, received, &copy[0..n])
+    provider.on_asdu(file, header, UnknownField::Nothing, received, &[])
 }
 
 impl TwoParty {
@@ -128,46 +184,17 @@ impl TwoParty {
         NextFrame::Err(FtError::RecordMismatch)
     }
 
-    // The Provider has answered.
-    fn after_provider(self, damage: &[u8], step: ProviderStep) -> TwoParty
-        ensures { λ r. ⌜ r ≡ afterProvider self (now (damage .entry)) step ⌝ }
-    {
-        let provider = step.provider;
-        let answer = step.answer;
-        let receiver = self.receiver;
-        let before = self.radio;
-        let queue = replied(before, answer);
-        let radio = before.after_answer(damage, answer);
-        TwoParty {
-            provider,
-            receiver,
-            queue,
-            radio,
-        }
-    }
-
-    // The Provider is handed the Receiver's frame.
+    // The Provider is handed the Receiver's frame, and what it answers joins the queue.
     fn to_provider(self, file: &[u8], damage: &[u8]) -> TwoParty
         ensures { λ r. ⌜ r ≡ toProvider self (now (file .entry)) (now (damage .entry)) ⌝ }
     {
-        let provider = self.provider;
         let receiver = self.receiver;
-        let frame = receiver.awaited();
-        let header = build::header_of(receiver.procedure.ca, receiver.procedure.org, frame);
-        let received = Received::Frame(frame);
-        let step = provider.on_asdu(file, header, UnknownField::Nothing, received, &[]);
-        self.after_provider(damage, step)
-    }
-
-    // The Receiver has answered; `rest` is the queue behind the frame.
-    fn after_receiver(self, rest: Queue, step: ReceiverStep) -> TwoParty
-        ensures { λ r. ⌜ r ≡ heard self rest step ⌝ }
-    {
-        let provider = self.provider;
-        let receiver = step.receiver;
+        let before = self.radio;
+        let step = hand_provider(self.provider, receiver, file);
+        let provider = step.provider;
         let answer = step.answer;
-        let queue = rest.asked(answer);
-        let radio = self.radio;
+        let queue = replied(before, answer);
+        let radio = before.after_answer(damage, answer);
         TwoParty {
             provider,
             receiver,
@@ -191,17 +218,31 @@ impl TwoParty {
             × (now (store .exit) ≡ toReceiver self (now (file .entry)) (now (store .entry)) reply next damaged (F.Ok frame) .store) ⌝ }
     {
         let provider = self.provider;
-        let receiver = self.receiver;
-        let payload = payload_of(provider, file, reply, next);
-        let header = build::header_of(provider.procedure.ca, provider.procedure.org, frame);
-        let hit = noise::is_hit(damaged, next);
-        let step = hand_over(receiver, store, header, frame, payload, hit);
+        let radio = self.radio;
+        let step = hand_receiver(
+            provider,
+            self.receiver,
+            file,
+            store,
+            reply,
+            next,
+            damaged,
+            frame,
+        );
+        let receiver = step.receiver;
+        let answer = step.answer;
         let rest = Queue::Provider {
             reply,
             next: next + 1,
             damaged,
         };
-        self.after_receiver(rest, step)
+        let queue = rest.asked(answer);
+        TwoParty {
+            provider,
+            receiver,
+            queue,
+            radio,
+        }
     }
 
     // The same where there is a frame at that index; else nothing changes.
@@ -226,7 +267,7 @@ impl TwoParty {
     }
 
     // The queue's first frame passes; an empty queue stays.
-    pub fn advance(self, file: &[u8], damage: &[u8], store: &mut [u8]) -> TwoParty
+    fn advance(self, file: &[u8], damage: &[u8], store: &mut [u8]) -> TwoParty
         ensures { λ r. ⌜ (r ≡ advanced self (now (file .entry)) (now (damage .entry)) (now (store .entry)) .party)
             × (now (store .exit) ≡ advanced self (now (file .entry)) (now (damage .entry)) (now (store .entry)) .store) ⌝ }
     {

@@ -1,30 +1,15 @@
-use denote.Ref.{now}
 use borrow.Author.Needs.{needs}
-use Rattle.radio.specs.Radio.{arriving}
-use Rattle.twoparty.proofs.Reaches.{payload-short}
 use Rattle.twoparty.proofs.TwoParty.deliver.Statement.{statement}
 use Rattle.twoparty.proofs.TwoParty.deliver.Tie as tie
 
 pub deliver-spec : {M : Type 1} → statement M
-unfolding arriving
 deliver-spec =
     tie.close
     (tie.spec
     (λ c κs. search needs)
-    (λ c κs. search needs)
-    (λ c κs. search needs)
-    (λ c κs.
-    let p = c .before .before .before in
-    let a = p .before .before .before .before .before .args in
-    rw (p .payload-of .ensures) (payload-short (a .self .provider) (now (a .file)) (a .reply) (a .next)))
     (λ c. search needs)
     (λ c κs. search needs)
     (λ c. search needs)
     (λ c.
-    let s = c .before .before .before in
-    let t = s .before .before in
-    let p = t .before .before in (
-      simp (← (t .is-hit .ensures), ← (t .before .header-of .ensures), ← (p .payload-of .ensures))
-          (simp (← (s .hand-over .ensures .0)) (c .after-receiver .ensures)),
-      simp (← (t .is-hit .ensures), ← (t .before .header-of .ensures), ← (p .payload-of .ensures)) (s .hand-over .ensures .1),
-    )))
+    let h = c .before .before .before .before in
+    (simp (← (h .hand-receiver .ensures .0)) (simp (← (c .asked .ensures))), h .hand-receiver .ensures .1)))

@@ -8,9 +8,6 @@ to-provider-spec =
     (tie.spec
     (λ c κs. search needs)
     (λ c κs. search needs)
-    (λ c. search needs)
-    (λ c κs. search needs)
     (λ c κs. search needs)
     (λ c.
-    simp (← (c .before .before .before .before .awaited .ensures))
-    (simp (← (c .before .before .before .header-of .ensures)) (simp (← (c .before .on-asdu .ensures), ← (c .after-provider .ensures))))))
+    simp (← (c .before .before .before .hand-provider .ensures)) (simp (← (c .before .replied .ensures), ← (c .after-answer .ensures)))))
