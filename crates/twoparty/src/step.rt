@@ -73,27 +73,8 @@ fn payload_of(provider: Provider, file: &[u8], reply: Reply, index: usize) -> &[
     }
 }
 
-// The frame is handed to the Receiver with a payload that the radio hits: its first octet raised, in a
-// copy, since the file is the Provider's.
-fn hand_raised(
-    receiver: Receiver,
-    store: &mut [u8],
-    header: Header,
-    received: Received,
-    payload: &[u8],
-) -> ReceiverStep
-    requires { ⌜ length (now payload) ≤ 240 ⌝ }
-    ensures { λ r. ⌜ (r ≡ receive receiver (now (store .entry)) header U.Nothing received (raised (now (payload .entry))) .step)
-        × (now (store .exit) ≡ receive receiver (now (store .entry)) header U.Nothing received (raised (now (payload .entry))) .store) ⌝ }
-{
-    let n = payload.len();
-    let mut copy = [0u8; 240];
-    noise::raise(payload, &mut copy);
-    receiver.on_asdu(store, header, UnknownField::Nothing, received, &copy[0..n])
-}
-
-// The frame is handed to the Receiver with what arrives beside it: the payload, its first octet raised
-// where the radio hits it.
+// The frame is handed to the Receiver with what arrives beside it: the payload, or a copy of it with the
+// first octet raised where the radio hits it, since the file is the Provider's.
 fn hand_over(
     receiver: Receiver,
     store: &mut [u8],
@@ -106,10 +87,9 @@ fn hand_over(
     ensures { λ r. ⌜ (r ≡ receive receiver (now (store .entry)) header U.Nothing received (when hit (raised (now (payload .entry))) (now (payload .entry))) .step)
         × (now (store .exit) ≡ receive receiver (now (store .entry)) header U.Nothing received (when hit (raised (now (payload .entry))) (now (payload .entry))) .store) ⌝ }
 {
-    if hit {
-        return hand_raised(receiver, store, header, received, payload);
-    }
-    receiver.on_asdu(store, header, UnknownField::Nothing, received, payload)
+    let mut copy = [0u8; 240];
+    let beside = noise::arriving(payload, hit, &mut copy);
+    receiver.on_asdu(store, header, UnknownField::Nothing, received, beside)
 }
 
 // The frame at index `next` of the Provider's reply is handed to the Receiver, under the Provider's own
