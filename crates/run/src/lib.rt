@@ -1,15 +1,16 @@
 // The two-party run (document 01, A transfer script): frame after frame, until none is left or the next
 // one would exceed the budget.
 use asdu::FtError;
+use provide::CountResult;
 use provide::FrameResult;
+use provide::Provider;
 use receive::Receiver;
-use twoparty::NextFrame;
 use twoparty::Queue;
 use twoparty::Settings;
 use twoparty::TwoParty;
 use twoparty::TwoPartyResult;
 ghost use mathlib.Core.Path.{_≡_};
-ghost use Rattle.run.specs.Loop.{isNothing, usedUp, ranOn};
+ghost use Rattle.run.specs.Loop.{isPast, isOverBy, usedUp, ranOn};
 ghost use Rattle.run.specs.Run.{twoParty};
 ghost use Rattle.run.specs.declared.RunResult.the-variants.{Whole};
 
@@ -20,14 +21,29 @@ pub enum RunResult {
     Err(FtError),
 }
 
-// No frame passes next.
-fn is_nothing(next: NextFrame) -> bool
-    ensures { λ r. ⌜ r ≡ isNothing next ⌝ }
+// Whether no frame is left at this index of a reply; nor where the record and the file disagree.
+fn is_past(count: CountResult, next: usize) -> bool
+    ensures { λ r. ⌜ r ≡ isPast count next ⌝ }
 {
-    match next {
-        NextFrame::Nothing => true,
-        NextFrame::Frame { .. } => false,
-        NextFrame::Err(_) => true,
+    match count {
+        CountResult::Ok(n) => n <= next,
+        CountResult::Err(_) => true,
+    }
+}
+
+// No frame is left. It is told by counts, and no frame is made for it.
+fn is_over(provider: Provider, queue: Queue, file: &[u8]) -> bool
+    ensures { λ r. ⌜ r ≡ isOverBy provider (now (file .entry)) queue ⌝ }
+{
+    match queue {
+        Queue::Empty => true,
+        Queue::Receiver => {
+            if provider.agrees(file) {
+                return false;
+            }
+            true
+        }
+        Queue::Provider { reply, next, .. } => is_past(provider.reply_count(file, reply), next),
     }
 }
 
@@ -45,7 +61,9 @@ fn whole(receiver: Receiver, frames: usize) -> RunResult
 fn used_up(party: TwoParty, file: &[u8], frames: usize) -> RunResult
     ensures { λ r. ⌜ r ≡ usedUp party (now (file .entry)) frames ⌝ }
 {
-    if is_nothing(party.next_frame(file)) {
+    let provider = party.provider;
+    let queue = party.queue;
+    if is_over(provider, queue, file) {
         return whole(party.receiver, frames);
     }
     RunResult::Spent { frames }
