@@ -36,7 +36,8 @@ use Rattle.receive.specs.declared.ReceiverStep.{ReceiverStep}
 use Rattle.receive.specs.declared.ToSend.the-variants as T
 use Rattle.exchange.specs.Exchange.{Side, byReceiver, Passing, untouched, providerSends, packetsOf, receiverSends, isSending, Noise, onTheWay, sendingsLeft, Exchange, provided, taken, stepOn, step, begun, ownHeaders}
 use Rattle.exchange.proofs.Begins.{payloads-behind}
-use Rattle.twoparty.specs.Party.{startedParty, headerBy, asked, replied, afterProvider, afterReceiver, advanced}
+use Rattle.delivery.specs.Handed.{headerBy}
+use Rattle.twoparty.specs.Party.{startedParty, asked, replied, afterProvider, afterReceiver, advanced}
 use Rattle.twoparty.proofs.Standing.{queueOf, none, packetAt, frame-is, first-is}
 use Rattle.radio.specs.Radio.{afterSending, arriving, isDamaged}
 use Rattle.twoparty.specs.declared.Queue.{Queue}

@@ -18,7 +18,8 @@ use Rattle.twoparty.specs.declared.TwoParty.{TwoParty}
 use Rattle.twoparty.specs.declared.Queue.{Queue}
 use Rattle.twoparty.specs.declared.Queue.the-variants as Q
 use Rattle.twoparty.specs.declared.NextFrame.the-variants as N
-use Rattle.twoparty.specs.Party.{first, nextFrame, still, toProvider, receiverHanded, afterReceiver, advanced}
+use Rattle.twoparty.specs.Party.{first, nextFrame, still, toProvider, afterReceiver, advanced}
+use Rattle.delivery.specs.Handed.{receiverHanded}
 use Rattle.run.specs.Loop.{isNothing, isOver, whole, usedUp, ranOn}
 
 -- the record of these parts

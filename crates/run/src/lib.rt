@@ -98,7 +98,7 @@ fn run_on(start: TwoParty, file: &[u8], damage: &[u8], store: &mut [u8], budget:
                 if !provider.agrees(file) {
                     return whole(receiver, frames);
                 }
-                let step = twoparty::hand_provider(provider, receiver, file);
+                let step = delivery::hand_provider(provider, receiver, file);
                 let answer = step.answer;
                 provider = step.provider;
                 queue = twoparty::replied(radio, answer);
@@ -112,7 +112,7 @@ fn run_on(start: TwoParty, file: &[u8], damage: &[u8], store: &mut [u8], budget:
                 damaged,
             } => match provider.reply_frame(file, reply, next) {
                 FrameResult::Ok(frame) => {
-                    let step = twoparty::hand_receiver(
+                    let step = delivery::hand_receiver(
                         provider,
                         receiver,
                         file,

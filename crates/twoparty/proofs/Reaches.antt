@@ -1,63 +1,26 @@
--- How far a Provider's replies reach, on every record: no payload has more than 240 octets, and no frame is found past index 0xFFFFFF.
+-- How far a Provider's replies reach, on every record: no frame is found past index 0xFFFFFF, nor where record and file disagree.
 use Prim.Native.Nat.{ℕ, _≤_}
 use mathlib.Core.Path.{_≡_, refl}
 use mathlib.Core.Bool.{Bool, true, false}
-use mathlib.Core.List.{List, []}
-use native.Mathlib.Nat.{le-trans, min-le-left}
+use mathlib.Core.List.{List}
 use native.Mathlib.Omega.{arith}
 use lib.Dec.{eqb, ltb}
-use lib.ListN.{length, length-take}
+use lib.ListN.{length}
 use borrow.Author.Tests.{eqb-true, ltb-true, leb-true}
 use Rattle.laws.specs.When.{when}
-use Rattle.laws.proofs.Choices.{either}
 use Rattle.asdu.specs.declared.Nos.{Nos}
 use Rattle.asdu.specs.declared.FtError.{FtError}
 use Rattle.frame.specs.declared.Frame.{Frame}
 use Rattle.provide.specs.Record.{fileAgrees}
-use Rattle.provide.specs.Replies.{octetsOf, limitOf, segmentCount, only, sectionFrame, frameAt, replyFrame, onlyPart, sectionPart, partAt, replyPayload, partOctets, payloadOf}
+use Rattle.provide.specs.Replies.{octetsOf, limitOf, segmentCount, only, sectionFrame, frameAt, replyFrame}
 use Rattle.provide.specs.declared.Provider.{Provider}
 use Rattle.provide.specs.declared.Reply.{Reply}
 use Rattle.provide.specs.declared.Reply.the-variants.{Nothing, FileReady, SectionReady, Section, FileClose}
 use Rattle.provide.specs.declared.FrameResult.{FrameResult}
 use Rattle.provide.specs.declared.FrameResult.the-variants.{Ok, Err}
-use Rattle.provide.specs.declared.Part.{Part}
-use Rattle.provide.specs.declared.PartResult.{PartResult}
-use Rattle.provide.specs.declared.PartResult.the-variants as Q
 use Rattle.provide.proofs.Making.{agrees}
 use Rattle.provide.proofs.SectionLaws.{section-within}
-use Rattle.provide.proofs.Building.{limit-most}
-use Rattle.provide.proofs.Cuts.{segment-most, ceil-most, agreed-limit}
-
--- ---- payloads
-
-module _ (p : Provider) (file : List ℕ) where
-  abbrev Short : PartResult → Type 0
-  Short q = length (payloadOf file q) ≤ 240
-
-  only-short : (i : ℕ) → Short (onlyPart i)
-  unfolding onlyPart partOctets
-  only-short i = either Short (eqb i 0) _ (Q.Err _) (omega arith) (omega arith)
-
-  -- no part is longer than its length
-  part-most : (q : Part) → length (partOctets q file) ≤ q .length
-  unfolding partOctets
-  part-most q = simp length-take (min-le-left (q .length) _)
-
-  part-at-short : (r : Reply) (i : ℕ) → Short (partAt p file r i)
-  unfolding sectionPart
-  part-at-short Nothing i = omega arith
-  part-at-short FileReady i = only-short i
-  part-at-short (SectionReady nos) i = only-short i
-  part-at-short (Section nos) i =
-      either Short (ltb i (segmentCount p file nos)) _ _
-      (le-trans (part-most _) (le-trans (segment-most (limitOf p) (octetsOf p file nos) i) (limit-most (p .procedure .sizes)))) (only-short _)
-  part-at-short (FileClose nos) i = only-short i
-
-  pub payload-short : (r : Reply) (i : ℕ) → Short (replyPayload p file r i)
-  unfolding replyPayload
-  payload-short r i = either Short (fileAgrees p file) _ (Q.Err _) (part-at-short r i) (omega arith)
-
--- ---- indices
+use Rattle.provide.proofs.Cuts.{ceil-most, agreed-limit}
 
 -- a frame that is found past a test
 found : (b : Bool) (e : FtError) (x : FrameResult) (f : Frame) → when b x (Err e) ≡ Ok f → (b ≡ true) × (x ≡ Ok f)

@@ -1,23 +1,18 @@
 -- The exchange a second time, as the code's record keeps it: the queue is one frame of the Receiver's, or the rest of one reply of the Provider's, and the sendings to come are a section and a number.
 -- What a customer must believe is the exchange (exchange/specs/Exchange.antt). These laws tie the two: `next-shown` (proofs/Standing.antt), that the frame shown is the first of the exchange's queue; `sight` (run/proofs/Following.antt), that a step here is a step there; `run-is` (run/proofs/Running.antt) and `frames-shown` (run/proofs/Showing.antt), that whole runs are the same.
-use Prim.Native.Nat.{ℕ, zero, suc, _+_, _-_}
-use mathlib.Core.Bool.{Bool, true, false}
-use mathlib.Core.List.{List, [], _∷_}
-use lib.Dec.{eqb, leb, ltb}
+use Prim.Native.Nat.{ℕ, _+_, _-_}
+use mathlib.Core.Bool.{Bool}
+use mathlib.Core.List.{List}
+use lib.Dec.{leb}
 use lib.ListN.{length}
 use Rattle.laws.specs.When.{when, unless, _and_}
-use Rattle.asdu.specs.declared.Header.{Header}
-use Rattle.asdu.specs.declared.UnknownField.the-variants as U
 use Rattle.asdu.specs.declared.FtError.the-variants as E
 use Rattle.frame.specs.declared.Frame.{Frame}
 use Rattle.ft.specs.Directions.{otherRole}
-use Rattle.ft.specs.Building.{headerOf}
-use Rattle.ft.specs.declared.Received.the-variants as D
 use Rattle.ft.specs.declared.Role.{Role}
 use Rattle.ft.specs.declared.FileTransferProcedure.{FileTransferProcedure}
 use Rattle.provide.specs.Record.{providerMade, fileAgrees}
-use Rattle.provide.specs.Replies.{replyFrame, replyPayload, payloadOf}
-use Rattle.provide.specs.Requests.{provide}
+use Rattle.provide.specs.Replies.{replyFrame}
 use Rattle.provide.specs.declared.Provider.{Provider}
 use Rattle.provide.specs.declared.ProviderStep.{ProviderStep}
 use Rattle.provide.specs.declared.ProviderAnswer.{ProviderAnswer}
@@ -28,7 +23,7 @@ use Rattle.provide.specs.declared.Reply.{Reply}
 use Rattle.provide.specs.declared.FrameResult.{FrameResult}
 use Rattle.provide.specs.declared.FrameResult.the-variants as F
 use Rattle.receive.specs.Record.{receiverMade, storeAgrees, awaited, started}
-use Rattle.receive.specs.Answers.{Outcome, receive, sends}
+use Rattle.receive.specs.Answers.{Outcome, sends}
 use Rattle.receive.specs.declared.Receiver.{Receiver}
 use Rattle.receive.specs.declared.ReceiverStep.{ReceiverStep}
 use Rattle.receive.specs.declared.ReceiverAnswer.{ReceiverAnswer}
@@ -36,8 +31,9 @@ use Rattle.receive.specs.declared.ReceiverResult.{ReceiverResult}
 use Rattle.receive.specs.declared.ReceiverResult.the-variants as RM
 use Rattle.exchange.specs.Stations.{stationWith}
 use Rattle.exchange.specs.declared.Sender.the-variants as S
-use Rattle.radio.specs.Radio.{allHaveOctets, firstSection, isDamaged, afterAnswer, arriving}
+use Rattle.radio.specs.Radio.{allHaveOctets, firstSection, isDamaged, afterAnswer}
 use Rattle.radio.specs.declared.Radio.{Radio}
+use Rattle.delivery.specs.Handed.{providerHanded, receiverHanded}
 use Rattle.twoparty.specs.declared.Settings.{Settings}
 use Rattle.twoparty.specs.declared.Queue.{Queue}
 use Rattle.twoparty.specs.declared.Queue.the-variants as Q
@@ -104,10 +100,6 @@ pub record Moved : Type 0 where
 abbrev pub still : TwoParty → List ℕ → Moved
 still t store = record { party = t; store = store }
 
--- the header of a station's own frame
-abbrev pub headerBy : FileTransferProcedure → Frame → Header
-headerBy s f = headerOf (s .ca) (s .org) f
-
 -- what the Provider's answer puts into the queue
 abbrev pub replied : Radio → ProviderAnswer → Queue
 replied r (P.Running reply) = Q.Provider reply 0 (isDamaged r reply)
@@ -116,10 +108,6 @@ replied r (P.Deactivated scq) = Q.Empty
 replied r (P.FileRejected afq) = Q.Empty
 replied r (P.Refused cause mirror) = Q.Empty
 replied r (P.Err e) = Q.Empty
-
--- the Provider is handed the Receiver's frame
-abbrev pub providerHanded : Provider → Receiver → List ℕ → ProviderStep
-providerHanded p r file = provide p file (headerBy (r .procedure) (awaited r)) U.Nothing (D.Frame (awaited r)) []
 
 -- the Provider has answered
 abbrev pub afterProvider : TwoParty → List ℕ → ProviderStep → TwoParty
@@ -133,11 +121,6 @@ afterProvider t damage s =
 
 abbrev pub toProvider : TwoParty → List ℕ → List ℕ → TwoParty
 toProvider t file damage = afterProvider t damage (providerHanded (t .provider) (t .receiver) file)
-
--- the Receiver is handed the Provider's frame, with what arrives beside it
-abbrev pub receiverHanded : Provider → Receiver → List ℕ → List ℕ → Reply → ℕ → Bool → Frame → Outcome
-receiverHanded p r file store reply i damaged f =
-    receive r store (headerBy (p .procedure) f) U.Nothing (D.Frame f) (arriving damaged i (payloadOf file (replyPayload p file reply i)))
 
 -- the Receiver has answered; `rest` is the queue behind the frame
 abbrev pub afterReceiver : TwoParty → Queue → Outcome → Moved

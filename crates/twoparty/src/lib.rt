@@ -1,7 +1,6 @@
 // A transfer between two parties, frame by frame (document 01, A transfer script): one Provider and one Receiver, and between them a
 // radio that raises octets where the damage list says so. File, damage and store are lent to each call.
 mod begin; // the tests before any frame, and the start
-mod noise; // what a damaged sending is hit at
 mod step; // one frame
 
 use asdu::AddressSizes;
@@ -14,8 +13,6 @@ use provide::Provider;
 use provide::Reply;
 use radio::Radio;
 use receive::Receiver;
-pub use step::hand_provider;
-pub use step::hand_receiver;
 pub use step::replied;
 
 // What a run is given beside file, damage and store.

@@ -4,33 +4,15 @@ use crate::NextFrame;
 use crate::Queue;
 use crate::TwoParty;
 use crate::TwoPartyResult;
-use crate::noise;
 use asdu::FtError;
-use asdu::Header;
-use asdu::UnknownField;
 use exchange::Sender;
-use frame::Frame;
-use ft::Received;
-use ft::build;
 use provide::FrameResult;
-use provide::PartResult;
-use provide::Provider;
 use provide::ProviderAnswer;
-use provide::ProviderStep;
 use provide::Reply;
 use radio::Radio;
-use receive::Receiver;
-use receive::ReceiverStep;
-ghost use Prim.Native.Nat.{_≤_};
 ghost use mathlib.Core.Path.{_≡_};
-ghost use lib.ListN.{length};
-ghost use Rattle.laws.specs.When.{when};
-ghost use Rattle.asdu.specs.declared.UnknownField.the-variants as U;
-ghost use Rattle.provide.specs.Replies.{replyFrame, replyPayload, payloadOf};
-ghost use Rattle.provide.specs.declared.FrameResult.the-variants as F;
-ghost use Rattle.receive.specs.Answers.{receive};
-ghost use Rattle.exchange.specs.Damaging.{raised};
-ghost use Rattle.twoparty.specs.Party.{fromReply, first, nextFrame, replied, providerHanded, receiverHanded, toProvider, toReceiver, advanced, partyStepped};
+ghost use Rattle.provide.specs.Replies.{replyFrame};
+ghost use Rattle.twoparty.specs.Party.{fromReply, first, nextFrame, replied, toProvider, toReceiver, advanced, partyStepped};
 
 // What the Provider's answer puts into the queue.
 pub fn replied(radio: Radio, answer: ProviderAnswer) -> Queue
@@ -61,74 +43,6 @@ fn from_reply(found: FrameResult) -> NextFrame
         },
         FrameResult::Err(_) => NextFrame::Nothing,
     }
-}
-
-// What stands beside the frame at an index of the Provider's reply.
-fn payload_of(provider: Provider, file: &[u8], reply: Reply, index: usize) -> &[u8]
-    ensures { λ r. ⌜ now r ≡ payloadOf (now (file .entry)) (replyPayload provider (now (file .entry)) reply index) ⌝ }
-{
-    match provider.reply_payload(file, reply, index) {
-        PartResult::Ok(part) => part.octets(file),
-        PartResult::Err(_) => &file[0..0],
-    }
-}
-
-// The frame is handed to the Receiver with what arrives beside it: the payload, or a copy of it with the
-// first octet raised where the radio hits it, since the file is the Provider's.
-fn hand_over(
-    receiver: Receiver,
-    store: &mut [u8],
-    header: Header,
-    received: Received,
-    payload: &[u8],
-    hit: bool,
-) -> ReceiverStep
-    requires { ⌜ length (now payload) ≤ 240 ⌝ }
-    ensures { λ r. ⌜ (r ≡ receive receiver (now (store .entry)) header U.Nothing received (when hit (raised (now (payload .entry))) (now (payload .entry))) .step)
-        × (now (store .exit) ≡ receive receiver (now (store .entry)) header U.Nothing received (when hit (raised (now (payload .entry))) (now (payload .entry))) .store) ⌝ }
-{
-    let mut copy = [0u8; 240];
-    let beside = noise::arriving(payload, hit, &mut copy);
-    receiver.on_asdu(store, header, UnknownField::Nothing, received, beside)
-}
-
-// The frame at index `next` of the Provider's reply is handed to the Receiver, under the Provider's own
-// header and with what arrives beside it.
-pub fn hand_receiver(
-    provider: Provider,
-    receiver: Receiver,
-    file: &[u8],
-    store: &mut [u8],
-    reply: Reply,
-    next: usize,
-    damaged: bool,
-    frame: Frame,
-) -> ReceiverStep
-    ensures { λ r. ⌜ (r ≡ receiverHanded provider receiver (now (file .entry)) (now (store .entry)) reply next damaged frame .step)
-        × (now (store .exit) ≡ receiverHanded provider receiver (now (file .entry)) (now (store .entry)) reply next damaged frame .store) ⌝ }
-{
-    let payload = payload_of(provider, file, reply, next);
-    let header = build::header_of(provider.procedure.ca, provider.procedure.org, frame);
-    let hit = noise::is_hit(damaged, next);
-    hand_over(
-        receiver,
-        store,
-        header,
-        Received::Frame(frame),
-        payload,
-        hit,
-    )
-}
-
-// The Provider is handed the Receiver's frame, the one whose answer its record awaits, under the
-// Receiver's own header.
-pub fn hand_provider(provider: Provider, receiver: Receiver, file: &[u8]) -> ProviderStep
-    ensures { λ r. ⌜ r ≡ providerHanded provider receiver (now (file .entry)) ⌝ }
-{
-    let frame = receiver.awaited();
-    let header = build::header_of(receiver.procedure.ca, receiver.procedure.org, frame);
-    let received = Received::Frame(frame);
-    provider.on_asdu(file, header, UnknownField::Nothing, received, &[])
 }
 
 impl TwoParty {
@@ -170,7 +84,7 @@ impl TwoParty {
     {
         let receiver = self.receiver;
         let before = self.radio;
-        let step = hand_provider(self.provider, receiver, file);
+        let step = delivery::hand_provider(self.provider, receiver, file);
         let provider = step.provider;
         let answer = step.answer;
         let queue = replied(before, answer);
@@ -183,49 +97,8 @@ impl TwoParty {
         }
     }
 
-    // The Receiver is handed the frame at index `next` of the Provider's reply.
-    fn deliver(
-        self,
-        file: &[u8],
-        store: &mut [u8],
-        reply: Reply,
-        next: usize,
-        damaged: bool,
-        frame: Frame,
-    ) -> TwoParty
-        requires { ⌜ next ≤ 0xFFFFFF ⌝ }
-        ensures { λ r. ⌜ (r ≡ toReceiver self (now (file .entry)) (now (store .entry)) reply next damaged (F.Ok frame) .party)
-            × (now (store .exit) ≡ toReceiver self (now (file .entry)) (now (store .entry)) reply next damaged (F.Ok frame) .store) ⌝ }
-    {
-        let provider = self.provider;
-        let radio = self.radio;
-        let step = hand_receiver(
-            provider,
-            self.receiver,
-            file,
-            store,
-            reply,
-            next,
-            damaged,
-            frame,
-        );
-        let receiver = step.receiver;
-        let answer = step.answer;
-        let rest = Queue::Provider {
-            reply,
-            next: next + 1,
-            damaged,
-        };
-        let queue = rest.asked(answer);
-        TwoParty {
-            provider,
-            receiver,
-            queue,
-            radio,
-        }
-    }
-
-    // The same where there is a frame at that index; else nothing changes.
+    // The Receiver is handed the frame at index `next` of the Provider's reply, and what it sends takes the
+    // place of the rest; where there is no such frame nothing changes.
     fn to_receiver(
         self,
         file: &[u8],
@@ -238,9 +111,33 @@ impl TwoParty {
             × (now (store .exit) ≡ toReceiver self (now (file .entry)) (now (store .entry)) reply next damaged (replyFrame (self .provider) (now (file .entry)) reply next) .store) ⌝ }
     {
         let provider = self.provider;
+        let radio = self.radio;
         match provider.reply_frame(file, reply, next) {
             FrameResult::Ok(frame) => {
-                return self.deliver(file, store, reply, next, damaged, frame);
+                let step = delivery::hand_receiver(
+                    provider,
+                    self.receiver,
+                    file,
+                    store,
+                    reply,
+                    next,
+                    damaged,
+                    frame,
+                );
+                let receiver = step.receiver;
+                let answer = step.answer;
+                let rest = Queue::Provider {
+                    reply,
+                    next: next + 1,
+                    damaged,
+                };
+                let queue = rest.asked(answer);
+                return TwoParty {
+                    provider,
+                    receiver,
+                    queue,
+                    radio,
+                };
             }
             FrameResult::Err(_) => return self,
         }

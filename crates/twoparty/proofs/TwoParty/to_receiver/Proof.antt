@@ -1,5 +1,4 @@
 use mathlib.Core.Path.{sym, _∙_}
-use denote.Ref.{now}
 use borrow.Author.Needs.{needs}
 use Rattle.twoparty.proofs.Reaches.{frame-below}
 use Rattle.twoparty.proofs.TwoParty.to_receiver.Statement.{statement}
@@ -11,18 +10,20 @@ to-receiver-spec =
     (tie.spec
     (λ c κs. search needs)
     (λ c. search needs)
-    (λ c κs.
-    let f = c .before .before in
-    let r = f .before .before in
-    let a = r .before .before .before .before .args in
-    frame-below (a .self .provider) (now (a .file)) (a .reply) (a .next) _ (sym (r .reply-frame .ensures) ∙ f .frame .given .1))
+    (λ c κs. search needs)
+    (λ c.
+    let f = c .before .before .before .before .before .before in
+    let most = frame-below _ _ _ _ _ (sym (f .before .before .reply-frame .ensures) ∙ f .frame .given .1) in
+    search needs)
+    (λ c κs. search needs)
     (λ c. search needs)
     (λ c.
-    let d = c .before .before in
-    let f = d .before .before .before in
-    let r = f .before .before in
-    let e = sym (r .reply-frame .ensures) ∙ f .frame .given .1 in
-    (simp e (d .deliver .ensures .0), simp e (d .deliver .ensures .1)))
+    let h = c .before .before .before .before in
+    let f = h .before .before .before in
+    let e = sym (f .before .before .reply-frame .ensures) ∙ f .frame .given .1 in (
+      simp e (simp (← (h .hand-receiver .ensures .0)) (simp (← (c .asked .ensures)))),
+      simp e (h .hand-receiver .ensures .1),
+    ))
     (λ c. search needs)
     (λ c.
     let e = sym (c .before .before .reply-frame .ensures) ∙ c .enum-told .given .1 in

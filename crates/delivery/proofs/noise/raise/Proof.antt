@@ -5,8 +5,8 @@ use native.Mathlib.Omega.{arith}
 use lib.ListN.{length, take, length-set}
 use borrow.Author.Needs.{needs}
 use Rattle.radio.proofs.Damage.{copied-next, copied-all, raised-front, raised-none}
-use Rattle.twoparty.proofs.noise.raise.Statement.{statement}
-use Rattle.twoparty.proofs.noise.raise.Tie as tie
+use Rattle.delivery.proofs.noise.raise.Statement.{statement}
+use Rattle.delivery.proofs.noise.raise.Tie as tie
 
 abbrev Inv-loop : tie.InvT-loop
 Inv-loop payload out₀ i₀ out i = (i ≤ length payload) × (take i out ≡ take i payload) × (length out ≡ length out₀)

@@ -1,8 +1,8 @@
 use mathlib.Core.Path.{sym, _∙_}
 use Rattle.laws.proofs.Decide.{decide}
 use borrow.Author.Needs.{needs}
-use Rattle.twoparty.proofs.step.payload_of.Statement.{statement}
-use Rattle.twoparty.proofs.step.payload_of.Tie as tie
+use Rattle.delivery.proofs.payload_of.Statement.{statement}
+use Rattle.delivery.proofs.payload_of.Tie as tie
 
 pub payload-of-spec : {M : Type 1} → statement M
 payload-of-spec =

@@ -1,6 +1,6 @@
 use borrow.Author.Needs.{needs}
-use Rattle.twoparty.proofs.step.hand_provider.Statement.{statement}
-use Rattle.twoparty.proofs.step.hand_provider.Tie as tie
+use Rattle.delivery.proofs.hand_provider.Statement.{statement}
+use Rattle.delivery.proofs.hand_provider.Tie as tie
 
 pub hand-provider-spec : {M : Type 1} → statement M
 hand-provider-spec =

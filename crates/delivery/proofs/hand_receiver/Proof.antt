@@ -1,9 +1,9 @@
 use denote.Ref.{now}
 use borrow.Author.Needs.{needs}
 use Rattle.radio.specs.Radio.{arriving}
-use Rattle.twoparty.proofs.Reaches.{payload-short}
-use Rattle.twoparty.proofs.step.hand_receiver.Statement.{statement}
-use Rattle.twoparty.proofs.step.hand_receiver.Tie as tie
+use Rattle.delivery.proofs.Short.{payload-short}
+use Rattle.delivery.proofs.hand_receiver.Statement.{statement}
+use Rattle.delivery.proofs.hand_receiver.Tie as tie
 
 pub hand-receiver-spec : {M : Type 1} → statement M
 unfolding arriving

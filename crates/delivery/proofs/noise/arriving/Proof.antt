@@ -1,8 +1,8 @@
 use native.Mathlib.Nat.{sub-zero}
 use borrow.Author.Needs.{needs}
 use Rattle.laws.proofs.Decide.{whens}
-use Rattle.twoparty.proofs.noise.arriving.Statement.{statement}
-use Rattle.twoparty.proofs.noise.arriving.Tie as tie
+use Rattle.delivery.proofs.noise.arriving.Statement.{statement}
+use Rattle.delivery.proofs.noise.arriving.Tie as tie
 
 pub arriving-spec : {M : Type 1} → statement M
 arriving-spec =

@@ -1,6 +1,6 @@
 use borrow.Author.Needs.{needs}
-use Rattle.twoparty.proofs.step.hand_over.Statement.{statement}
-use Rattle.twoparty.proofs.step.hand_over.Tie as tie
+use Rattle.delivery.proofs.hand_over.Statement.{statement}
+use Rattle.delivery.proofs.hand_over.Tie as tie
 
 pub hand-over-spec : {M : Type 1} → statement M
 hand-over-spec =
