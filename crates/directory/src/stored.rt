@@ -38,8 +38,8 @@ fn write_entry(store: &mut [u8], place: usize, ioa: u32, entry: &[u8])
         (ioa / 65536 % 256) as u8,
         (ioa / 16777216) as u8,
     ];
-    store::write_at(store, place, &address);
-    store::write_at(store, place + 4, entry);
+    store::write_at(store, place, 0, &address);
+    store::write_at(store, place, 4, entry);
 }
 
 // Writes a page's entries one after the other from a place of the store on; the first is at the page's

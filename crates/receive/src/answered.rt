@@ -223,8 +223,7 @@ impl Receiver {
         requires { ⌜ self .kept + self .staged ≤ length (now store) ⌝ }
         ensures { λ r. ⌜ (r ≡ onSegment self (now (store .entry)) (now (payload .entry)) .step) × (now (store .exit) ≡ onSegment self (now (store .entry)) (now (payload .entry)) .store) ⌝ }
     {
-        let place = self.kept + self.staged;
-        if store::write_at(store, place, payload) {
+        if store::write_at(store, self.kept, self.staged, payload) {
             let mut next = self;
             next.staged = self.staged + payload.len();
             return next.runs();

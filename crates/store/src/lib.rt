@@ -20,6 +20,16 @@ pub fn is_held(kept: usize, staged: usize, len: usize) -> bool
     false
 }
 
+// Whether it has room for so many octets more.
+fn has_room(kept: usize, staged: usize, more: usize, len: usize) -> bool
+    ensures { λ r. ⌜ r ≡ leb (kept + staged + more) len ⌝ }
+{
+    if is_held(kept, staged, len) {
+        return is_held(kept + staged, more, len);
+    }
+    false
+}
+
 // Copies the octets over the front of a part.
 fn copy_front(part: &mut [u8], octets: &[u8])
     requires { ⌜ length (now octets) ≤ length (now part) ⌝ }
@@ -32,13 +42,13 @@ fn copy_front(part: &mut [u8], octets: &[u8])
     }
 }
 
-// Writes the octets into the store from a place on and says so, or leaves the store where it cannot
-// take them there.
-pub fn write_at(store: &mut [u8], place: usize, octets: &[u8]) -> bool
-    ensures { λ r. ⌜ (r ≡ leb (place + length (now (octets .entry))) (length (now (store .entry)))) × (now (store .exit) ≡ when r (written (now (store .entry)) place (now (octets .entry))) (now (store .entry))) ⌝ }
+// Writes the octets into the store's middle, after those accepted and under way, and says so; or leaves
+// the store where it cannot take them there.
+pub fn write_at(store: &mut [u8], kept: usize, staged: usize, octets: &[u8]) -> bool
+    ensures { λ r. ⌜ (r ≡ leb (kept + staged + length (now (octets .entry))) (length (now (store .entry)))) × (now (store .exit) ≡ when r (written (now (store .entry)) (kept + staged) (now (octets .entry))) (now (store .entry))) ⌝ }
 {
-    if is_held(place, octets.len(), store.len()) {
-        copy_front(&mut store[place..], octets);
+    if has_room(kept, staged, octets.len(), store.len()) {
+        copy_front(&mut store[kept + staged..], octets);
         return true;
     }
     false

@@ -1,4 +1,4 @@
--- The store's end part, from the place on, is lent to the copying function and comes back.
+-- The store's end part, after what is kept and staged, is lent to the copying function and comes back.
 use Prim.Native.Nat.{_+_, _≤_}
 use mathlib.Core.Path.{sym}
 use native.Mathlib.Omega.{arith}
@@ -14,14 +14,17 @@ use Rattle.store.proofs.write_at.Tie as tie
 sub-copy-front : tie.Need-sub-copy-front
 sub-copy-front c =
     let a = c .before .before .before .before .args in
-    let h : a .place + length (a .octets .now) ≤ length (a .store .now) = leb-true _ _ (yes (c .before .is-held .ensures) (c .if1 .taken)) in
+    let h : a .kept + a .staged + length (a .octets .now) ≤ length (a .store .now) = leb-true _ _ (yes (c .before .has-room .ensures) (c .if1 .taken)) in
     omega arith
+
+add-copy-front : tie.Need-add-copy-front
+add-copy-front c = omega (arith, sub-copy-front c)
 
 copy-front-requires : tie.Need-copy-front-requires
 copy-front-requires c κs =
     let b = c .before .before in
     let a = b .before .before .before .args in
-    let h : a .place + length (a .octets .now) ≤ length (a .store .now) = leb-true _ _ (yes (b .is-held .ensures) (c .before .if1 .taken)) in
+    let h : a .kept + a .staged + length (a .octets .now) ≤ length (a .store .now) = leb-true _ _ (yes (b .has-room .ensures) (c .before .if1 .taken)) in
     simp (length-take, length-drop) (omega arith)
 
 returns : tie.Need-returns
@@ -29,19 +32,20 @@ returns c =
     let b = c .before .before in
     let i = b .before .before .before in
     let a = i .before .before .before .args in
-    let fits = yes (i .is-held .ensures) (b .before .before .if1 .taken) in
-    let h : a .place + length (a .octets .now) ≤ length (a .store .now) = leb-true _ _ fits in
-    (sym fits, simp whens (written-part (a .store .now) (a .place) (omega arith) (a .octets .now) (b .copy-front .last .0) (b .copy-front .ensures)))
+    let fits = yes (i .has-room .ensures) (b .before .before .if1 .taken) in
+    let h : a .kept + a .staged + length (a .octets .now) ≤ length (a .store .now) = leb-true _ _ fits in
+    (sym fits, simp whens (written-part (a .store .now) (a .kept + a .staged) (omega arith) (a .octets .now) (b .copy-front .last .0) (b .copy-front .ensures)))
 
 pub write-at-spec : {M : Type 1} → statement M
 write-at-spec =
     tie.close
     (tie.spec
     (λ c κs. search needs)
+    add-copy-front
     sub-copy-front
     (λ c. sub-copy-front c)
     (λ c. search needs)
     copy-front-requires
     (λ c. search needs)
     returns
-    (λ c. (sym (nay (c .before .is-held .ensures) (c .if1 .left)), simp whens)))
+    (λ c. (sym (nay (c .before .has-room .ensures) (c .if1 .left)), simp whens)))

@@ -11,7 +11,7 @@ use Rattle.receive.proofs.Receiver.on_segment.Tie as tie
 add-next : tie.Need-add-next
 add-next c =
     let w = c .before .before .before .before in
-    let a = w .before .before .before .before .before .args in
+    let a = w .before .before .before .before .args in
     let h : a .self .kept + a .self .staged + length (a .payload .now) ≤ length (a .store .now) =
     leb-true _ _ (yes (w .write-at .ensures .0) (c .before .if1 .taken)) in
     omega arith
@@ -36,7 +36,6 @@ pub on-segment-spec : {M : Type 1} → statement M
 on-segment-spec =
     tie.close
     (tie.spec
-    (λ c. search needs)
     (λ c κs. search needs)
     add-next
     (λ c κs. search needs)
