@@ -1,8 +1,8 @@
 -- What is read of a script is what is run of it.
-use mathlib.Core.Path.{_≡_, refl, sym, ap, _∙_}
+use mathlib.Core.Path.{_≡_, ap}
 use mathlib.Core.Option.{Option, none, some}
 use Prim.Native.Nat.{ℕ}
-use mathlib.Core.List.{List, []}
+use mathlib.Core.List.{List}
 use lib.ListN.{take}
 use lib.Seq.{take-append-seam}
 use Rattle.asdu.specs.declared.FtError.{FtError}

@@ -1,11 +1,11 @@
 -- The sendings are in order: the k-th sending of a section meets the k-th noise of that section, whatever the frames before it.
-use Prim.Native.Nat.{ℕ, zero, suc, _+_, _≤_, _<_}
-use mathlib.Core.Path.{_≡_, refl, sym, subst}
+use Prim.Native.Nat.{ℕ, zero, suc, _<_}
+use mathlib.Core.Path.{_≡_, sym, subst}
 use mathlib.Core.List.{List, []}
 use native.Mathlib.Omega.{arith}
 use native.Mathlib.Decide.{decLt}
 use Rattle.exchange.specs.Exchange.{Passing, Exchange, step, run}
-use Rattle.exchange.specs.Transfer.{Transfer, providerFrames, receiverFrames, exchanged}
+use Rattle.exchange.specs.Transfer.{Transfer, exchanged}
 use Rattle.exchange.specs.Order.{QueueInOrder, InOrder}
 use Rattle.exchange.proofs.Steps.{Along}
 use Rattle.exchange.proofs.Theorem.{all-pass}

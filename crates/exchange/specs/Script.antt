@@ -7,7 +7,7 @@ use Rattle.ft.specs.declared.Role.{Role}
 use Rattle.ft.specs.declared.Role.the-variants.{Controlled}
 use Rattle.ft.specs.declared.FileTransferProcedure.{FileTransferProcedure}
 use Rattle.provide.specs.Sections.{sectionCount}
-use Rattle.exchange.specs.Exchange.{Side, byProvider, byReceiver}
+use Rattle.exchange.specs.Exchange.{byProvider, byReceiver}
 use Rattle.exchange.specs.Stations.{stationWith}
 use Rattle.exchange.specs.Transfer.{Sendings}
 use Rattle.exchange.specs.Damaging.{scriptRadio}
