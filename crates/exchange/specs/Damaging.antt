@@ -1,4 +1,4 @@
--- The radio of a transfer script: no segment is lost, and the k-th naming of a section raises the first octet of its k-th sending by 1 modulo 256.
+-- The radio of a transfer script (document 01, A transfer script): no segment is lost, and the k-th naming of a section raises the first octet of its k-th sending by 1 modulo 256.
 use Prim.Native.Nat.{ℕ, zero, suc, _+_, _%_, _<_}
 use mathlib.Core.List.{List, [], _∷_}
 use lib.Dec.{eqb}

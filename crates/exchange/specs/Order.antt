@@ -1,4 +1,4 @@
--- The order of the sendings: where the k-th sending of a section begins, the noise that it meets is the section's k-th.
+-- The order of the sendings (document 01, The exchange and A transfer script): where the k-th sending of a section begins, the noise that it meets is the section's k-th.
 use Prim.Native.Nat.{ℕ, _+_, _-_}
 use mathlib.Core.Path.{_≡_}
 use mathlib.Core.Bool.{Bool, false}

@@ -1,4 +1,4 @@
--- Demand 3, the two-party result: whatever the radio damages, both machines complete, the Receiver with exactly the Provider's file.
+-- Demand 3, the two-party result (document 01, The exchange): whatever the radio damages, both machines complete, the Receiver with exactly the Provider's file.
 use Prim.Native.Nat.{ℕ, _+_, _*_, _≤_, _<_}
 use mathlib.Core.Path.{_≡_}
 use mathlib.Core.Logic.{_≢_}

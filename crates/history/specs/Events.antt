@@ -1,4 +1,4 @@
--- The history of a transfer: one Provider, one Receiver, and events of any kind, in any order and any number.
+-- The history of a transfer on any channel, which document 01 leaves open: one Provider, one Receiver, and events of any kind, in any order and any number.
 use Prim.Native.Nat.{ℕ}
 use mathlib.Core.List.{List, [], _∷_, _++_}
 use Rattle.frame.specs.declared.Frame.{Frame}

@@ -1,4 +1,4 @@
--- Nothing is freed that the desk does not hold: on a channel that forges neither of two frames, and may do anything else.
+-- Nothing is freed that the desk does not hold (on AFQ 1, the positive file acknowledgement of 7.2.6.32, a recorder frees its file): on a channel that forges neither of two frames, and may do anything else.
 use Prim.Native.Nat.{ℕ, _≤_}
 use mathlib.Core.Path.{_≡_}
 use mathlib.Core.Bool.{true}
