@@ -108,20 +108,20 @@ fn desk_hears(desk: Receiver, store: &mut Store, frame: Frame, beside: &[u8]) ->
 
 // What the desk has to send goes to the recorder, whose answer comes back. By the theorem a desk sends
 // 3 + 2 × n frames for n sections that nothing damages, and this file is one section.
-fn transfer(provider: Provider, file: &[u8], desk: Receiver, store: &mut Store) -> ReceiverStep {
+fn transfer(provider: Provider, file: &[u8], desk: Receiver, store: &mut Store) -> ReceiverAnswer {
     let mut recorder = provider;
     let mut step = desk.start(store);
     let mut left = 5usize;
     while 0 < left {
         let ToSend::Frame(frame) = step.to_send() else {
-            return step;
+            return step.answer;
         };
         let heard = recorder_hears(recorder, file, frame);
         recorder = heard.provider;
         step = answered(heard, file, step, store);
         left -= 1;
     }
-    step
+    step.answer
 }
 
 // The recorder: a controlled station that provides a file in the monitor direction.
@@ -141,8 +141,7 @@ fn desk() -> ReceiverResult {
 }
 
 // Complete: the store's first octets, so many, are the file.
-fn told(step: ReceiverStep) {
-    let answer = step.answer;
+fn told(answer: ReceiverAnswer) {
     if let ReceiverAnswer::Complete { length } = answer {
         number(b"whole ", length as u64);
     } else {
