@@ -49,6 +49,10 @@ fn octet(x: u8) {
     number(b"", x as u64);
 }
 
+fn shown(sender: &[u8], frame: Frame) {
+    number(sender, frame.type_id() as u64);
+}
+
 // The frame at an index of the recorder's reply reaches the desk, with the part of the file beside it.
 fn goes_out(
     provider: Provider,
@@ -90,9 +94,13 @@ fn answered(
     step
 }
 
-// A frame of the desk's comes in at the recorder, which then has a reply to send, or has ended.
-fn recorder_hears(provider: Provider, file: &[u8], frame: Frame) -> ProviderStep {
-    number(b"R ", frame.type_id() as u64);
+// What the desk sends comes in at the recorder, which then has a reply to send, or has ended.
+fn recorder_hears(provider: Provider, file: &[u8], sent: ToSend) -> ProviderStep {
+    let ToSend::Frame(frame) = sent else {
+        let answer = ProviderAnswer::Running(Reply::Nothing);
+        return ProviderStep { provider, answer };
+    };
+    shown(b"R ", frame);
     let header = build::header_of(STATION, 0, frame);
     let received = Received::Frame(frame);
     provider.on_asdu(file, header, UnknownField::Nothing, received, b"")
@@ -100,7 +108,7 @@ fn recorder_hears(provider: Provider, file: &[u8], frame: Frame) -> ProviderStep
 
 // A frame of the recorder's comes in at the desk, and beside a segment its octets.
 fn desk_hears(desk: Receiver, store: &mut Store, frame: Frame, beside: &[u8]) -> ReceiverStep {
-    number(b"P ", frame.type_id() as u64);
+    shown(b"P ", frame);
     let header = build::header_of(STATION, 0, frame);
     let received = Received::Frame(frame);
     desk.on_asdu(store, header, UnknownField::Nothing, received, beside)
@@ -113,10 +121,7 @@ fn transfer(provider: Provider, file: &[u8], desk: Receiver, store: &mut Store) 
     let mut step = desk.start(store);
     let mut left = 5usize;
     while 0 < left {
-        let ToSend::Frame(frame) = step.to_send() else {
-            return step.answer;
-        };
-        let heard = recorder_hears(recorder, file, frame);
+        let heard = recorder_hears(recorder, file, step.to_send());
         recorder = heard.provider;
         step = answered(heard, file, step, store);
         left -= 1;
