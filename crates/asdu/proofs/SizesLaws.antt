@@ -1,10 +1,10 @@
 -- What the widths leave: 18 entries of a page at each width that a making gives, and the two limits of a segment that document 01 names.
 use mathlib.Core.Bool.{true}
-use mathlib.Core.Path.{_≡_, refl}
+use mathlib.Core.Path.{_≡_}
 use Prim.Native.Nat.{ℕ, _≤_}
 use native.Mathlib.Omega.{arith}
 use borrow.Author.Tests.{leb-true}
-use Rattle.asdu.specs.Sizes.{within, sizesRight, headerLen, elementRoom, segmentLimit, pageEntries}
+use Rattle.asdu.specs.Sizes.{within, sizesRight, headerLen, elementRoom, pageEntries}
 use Rattle.asdu.specs.declared.AddressSizes.{AddressSizes}
 use Rattle.asdu.proofs.Range.{both}
 
@@ -20,13 +20,3 @@ page-entries z h =
     let a = bounds 1 2 (z .«common_address_octets») (both _ _ rest .0) in
     let o = bounds 1 3 (z .«information_object_address_octets») (both _ _ rest .1) in
     omega arith
-
--- a header of 6 octets and an object address of 3
-pub segment-widest : segmentLimit (record { «cause_octets» = 2; «common_address_octets» = 2; «information_object_address_octets» = 3 }) ≡ 236
-unfolding headerLen elementRoom segmentLimit
-segment-widest = refl
-
--- a header of 4 octets and an object address of 1
-pub segment-narrowest : segmentLimit (record { «cause_octets» = 1; «common_address_octets» = 1; «information_object_address_octets» = 1 }) ≡ 240
-unfolding headerLen elementRoom segmentLimit
-segment-narrowest = refl

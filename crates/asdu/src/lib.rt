@@ -117,6 +117,7 @@ pub enum Discard {
     Unspecified(Unspecified),
 }
 
+// One file of a directory, as F_DR_TA_1 carries it (7.3.6.7): name, length, status and creation time.
 pub struct DirectoryEntry {
     pub nof: Nof,
     pub lof: Lof,
@@ -124,6 +125,7 @@ pub struct DirectoryEntry {
     pub time: Cp56Time2a,
 }
 
+// The entry in some octets, or why they are none.
 pub enum EntryResult {
     Ok(DirectoryEntry),
     Err(FtError),
@@ -135,6 +137,7 @@ pub enum Packed {
     Err(FtError),
 }
 
+// The binary time of seven octets (7.2.6.18).
 pub struct Cp56Time2a {
     pub milliseconds: u16,
     pub minutes: u8,
@@ -148,6 +151,7 @@ pub struct Cp56Time2a {
     pub years: u8,
 }
 
+// A numbered refusal of document 01; `number` gives its number.
 pub enum FtError {
     // Because of the input.
     FileTooLong,
@@ -170,12 +174,14 @@ pub enum FtError {
     RecordMismatch,
 }
 
+// The widths of a system: octets of the cause, of the common address and of an object address.
 pub struct AddressSizes {
     pub cause_octets: u8,
     pub common_address_octets: u8,
     pub information_object_address_octets: u8,
 }
 
+// Widths, or 2 where no system has them.
 pub enum SizesResult {
     Ok(AddressSizes),
     Err(FtError),

@@ -6,11 +6,11 @@ ghost use Prim.Native.Nat.{_+_, min};
 const MAX: u32 = 0xFFFF_FFFF;
 
 // Both counts together, or the largest number where that is larger.
-pub fn saturating_sum(kept: usize, staged: usize) -> usize
-    ensures { λ r. ⌜ r ≡ min 18446744073709551615 (kept + staged) ⌝ }
+pub fn saturating_sum(a: usize, b: usize) -> usize
+    ensures { λ r. ⌜ r ≡ min 18446744073709551615 (a + b) ⌝ }
 {
-    if staged <= usize::MAX - kept {
-        return kept + staged;
+    if b <= usize::MAX - a {
+        return a + b;
     }
     usize::MAX
 }

@@ -1,10 +1,10 @@
 -- Whether a frame's values, and what stands beside it, are within their elements' ranges (document 01, Elements and frames). The object address is judged apart.
 use Prim.Native.Nat.{ℕ}
-use mathlib.Core.Bool.{Bool, true, false}
+use mathlib.Core.Bool.{Bool, true}
 use mathlib.Core.List.{List}
 use lib.Dec.{eqb, leb}
 use lib.ListN.{length}
-use Rattle.laws.specs.When.{when, _and_, _or_}
+use Rattle.laws.specs.When.{_and_, _or_}
 use Rattle.asdu.specs.Elements.{frqInRange, srqInRange, scqInRange, afqInRange, lofInRange, losInRange}
 use Rattle.asdu.specs.Time.{timeInRange}
 use Rattle.asdu.specs.Sizes.{segmentLimit}

@@ -3,7 +3,6 @@ use crate::Frame;
 use crate::SomeNof;
 use crate::SomeNos;
 use asdu::Afq;
-use asdu::Nof;
 use asdu::Nos;
 use asdu::Scq;
 use asdu::TypeId;

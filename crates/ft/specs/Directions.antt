@@ -1,6 +1,6 @@
 -- Roles and directions: IEC 60870-5-104, 9.6, and document 01, Settings.
 use Prim.Native.Nat.{ℕ, _+_}
-use mathlib.Core.Bool.{Bool, true, false}
+use mathlib.Core.Bool.{Bool}
 use Rattle.laws.specs.When.{when, _and_, _or_}
 use Rattle.asdu.specs.declared.Direction.{Direction}
 use Rattle.asdu.specs.declared.Direction.the-variants.{Monitor, Control, Both}

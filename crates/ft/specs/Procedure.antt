@@ -1,8 +1,8 @@
 -- A station's settings and what their making accepts (document 01, Settings and refusals 2 and 3).
 use Prim.Native.Nat.{ℕ}
-use mathlib.Core.Bool.{Bool, true, false}
+use mathlib.Core.Bool.{Bool}
 use lib.Dec.{eqb, leb, ltb}
-use Rattle.laws.specs.When.{when, unless, _and_, _or_}
+use Rattle.laws.specs.When.{unless, _and_, _or_}
 use Rattle.asdu.specs.Sizes.{sizesRight, hasOriginator, maxIoa, maxCommonAddress}
 use Rattle.asdu.specs.declared.AddressSizes.{AddressSizes}
 use Rattle.asdu.specs.declared.FtError.the-variants.{InvalidAddressSizes, AddressOutOfRange, RecordMismatch}

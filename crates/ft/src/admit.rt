@@ -6,7 +6,6 @@ use crate::Received;
 use crate::Role;
 use crate::direction;
 use asdu::AddressSizes;
-use asdu::Cause;
 use asdu::Discard;
 use asdu::FtError;
 use asdu::Header;
