@@ -1,10 +1,11 @@
 //! What a list keeps, and which part of the oracle answers which call.
 
-use crate::answer::{Answer, OURS, RECORD, number, own, said};
+use crate::answer::{Answer, OURS, RECORD, SCRIPT, number, own, said};
+use crate::directories::Called;
 use crate::machines::{Served, Taken};
 use crate::parties::Party;
 use crate::words::Words;
-use crate::{machines, parties, show, stations, values};
+use crate::{directories, machines, parties, show, stations, values};
 use iec104::ft::{FileTransferProcedure, checksum};
 
 /// The records and buffers of a list. A record is none where a call has made it one that no making gives.
@@ -13,12 +14,33 @@ pub struct Kept {
     pub station: Option<FileTransferProcedure>,
     pub provider: Option<Served>,
     pub receiver: Option<Taken>,
+    pub call: Option<Called>,
     pub party: Option<Party>,
     pub file: Vec<u8>,
     pub store: Vec<u8>,
     pub damage: Vec<u8>,
     /// Whether a call that the Rust was not asked may have written into the store.
     pub store_unknown: bool,
+}
+
+// A record that holds something in the store is out of the comparison once another one writes there.
+impl Kept {
+    pub fn leave_receiver(&mut self) {
+        if self.receiver.as_ref().is_some_and(Taken::holds_octets) {
+            self.receiver = None;
+        }
+    }
+
+    pub fn leave_call(&mut self) {
+        if self.call.as_ref().is_some_and(Called::holds_entries) {
+            self.call = None;
+        }
+    }
+
+    pub fn leave_transfers(&mut self) {
+        self.leave_receiver();
+        self.party = None;
+    }
 }
 
 /// Answers a call.
@@ -32,6 +54,8 @@ fn call(kept: &mut Kept, words: &mut Words, line: &str) -> Option<Answer> {
         "station" => stations::of_station(kept, words, line),
         "provider" => machines::of_provider(kept, words, line),
         "receiver" => machines::of_receiver(kept, words, line),
+        "pager" => directories::of_pager(kept, words),
+        "call" => directories::of_call(kept, words, line),
         "party" => parties::of_party(kept, words),
         "run" => parties::run(kept, words),
         "file" => of_file(kept, words),
@@ -82,10 +106,8 @@ fn of_store(kept: &mut Kept, words: &mut Words) -> Option<Answer> {
         "is" => {
             kept.store = words.octets()?;
             kept.store_unknown = false;
-            kept.party = None;
-            if kept.receiver.as_ref().is_some_and(Taken::holds_octets) {
-                kept.receiver = None;
-            }
+            kept.leave_transfers();
+            kept.leave_call();
             Some(count(&kept.store))
         }
         _ if kept.store_unknown => Some(RECORD),
@@ -106,11 +128,15 @@ fn of_damage(kept: &mut Kept, words: &mut Words) -> Option<Answer> {
 
 // A script is ours; what it reads stands in the buffers.
 fn of_script(kept: &mut Kept, line: &str) -> Answer {
-    let quoted = line.strip_prefix("script read \"").and_then(|rest| rest.strip_suffix('"'));
-    let text = quoted.map(|text| text.replace("\\n", "\n")).unwrap_or_default();
-    if let Some((_, _, file, damage)) = parties::script(&text) {
-        (kept.file, kept.damage) = (file, damage);
-        (kept.provider, kept.party) = (None, None);
-    }
-    OURS
+    let Some(rest) = line.strip_prefix("script read \"") else {
+        return OURS;
+    };
+    let text = rest.strip_suffix('"').map(|text| text.replace("\\n", "\n")).unwrap_or_default();
+    let Some((ioa, nof, file, damage)) = parties::script(&text) else {
+        return SCRIPT;
+    };
+    let answer = own(format!("{ioa} {nof} {} {}", file.len(), damage.len()));
+    (kept.file, kept.damage) = (file, damage);
+    (kept.provider, kept.party) = (None, None);
+    answer
 }

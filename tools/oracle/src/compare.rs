@@ -1,7 +1,7 @@
 //! The comparison: lists are made from a seed, played by replay and answered by the Rust, and held against each
 //! other answer by answer.
 //!
-//!     oracle compare [--seed N] [--calls N] [--replay PROGRAM] [--stop N] [--only tables|random]
+//!     oracle compare [--seed N] [--calls N] [--replay PROGRAM] [--stop N] [--only tables|random|directory]
 //!
 //! Every call is counted as one of: the same; both 4 (both refuse by 4, which document 01 leaves out); an intended
 //! difference, where replay must answer what docs/DIFFERENCES.md says; own (an answer about what a list keeps, which
@@ -26,6 +26,7 @@ struct Options {
     stop: usize,
     tables: bool,
     random: bool,
+    directory: bool,
 }
 
 #[derive(Default)]
@@ -52,8 +53,9 @@ struct Comparison {
 }
 
 fn options(words: &[String]) -> Options {
+    let replay = "target/bin/replay".into();
     let mut options =
-        Options { seed: 1, calls: 1_400_000, replay: "target/bin/replay".into(), stop: 10, tables: true, random: true };
+        Options { seed: 1, calls: 1_400_000, replay, stop: 10, tables: true, random: true, directory: false };
     let mut words = words.iter();
     while let Some(word) = words.next() {
         let value = words.next().cloned().unwrap_or_default();
@@ -63,6 +65,7 @@ fn options(words: &[String]) -> Options {
             "--calls" => options.calls = number(),
             "--stop" => options.stop = number() as usize,
             "--replay" => options.replay = value,
+            "--only" if value == "directory" => options.directory = true,
             "--only" => (options.tables, options.random) = (value == "tables", value == "random"),
             _ => crate::stop(&format!("{word}: --seed, --calls, --stop, --replay and --only are the options")),
         }
@@ -340,15 +343,17 @@ pub fn run(words: &[String]) {
         lines: 0,
         calls: 0,
     };
+    let directory = comparison.options.directory;
     if comparison.options.tables {
-        generate::tables(&mut |case| comparison.take(case));
+        let tables = if directory { generate::directory_tables } else { generate::tables };
+        tables(&mut |case| comparison.take(case));
     }
     let mut random = Random::new(comparison.options.seed);
     while comparison.options.random
         && !comparison.is_over()
         && comparison.calls + (comparison.lines as u64) < comparison.options.calls
     {
-        let case = generate::random(&mut random);
+        let case = if directory { generate::directory(&mut random) } else { generate::random(&mut random) };
         comparison.take(case);
     }
     comparison.play();

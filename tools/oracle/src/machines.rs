@@ -30,7 +30,7 @@ fn sent_frames(send: &[Vec<u8>], sizes: AddressSizes) -> Vec<Frame> {
 }
 
 // A part of a record as the Rust prints it: what stands between two of its fields.
-fn between<'a>(record: &'a str, from: &str, to: &str) -> &'a str {
+pub fn between<'a>(record: &'a str, from: &str, to: &str) -> &'a str {
     let behind = record.rsplit_once(from).map_or("", |(_, behind)| behind);
     behind.split_once(to).map_or(behind, |(part, _)| part)
 }
@@ -41,11 +41,16 @@ fn numbers(part: &str) -> Vec<u64> {
 }
 
 // Whether admission takes the octets for the frame of the call, or why the call is outside.
-fn is_outside(station: FileTransferProcedure, came: &Arrival) -> Option<Answer> {
+pub fn is_outside(station: FileTransferProcedure, came: &Arrival) -> Option<Answer> {
     match admitted(&came.sort, station.on_asdu(&came.octets, &came.known)) {
         outside @ Answer::Outside(_) => Some(outside),
         _ => None,
     }
+}
+
+/// The same where the Rust agrees; else as docs/DIFFERENCES.md has it.
+pub fn differing(rust: String, ours: String, why: &'static str) -> Answer {
+    if rust == ours { said(rust) } else { Answer::Differs { rust, ours, why } }
 }
 
 // ---- The Provider
@@ -466,11 +471,6 @@ impl Taken {
         }
     }
 
-    // The same where the Rust agrees; else as docs/DIFFERENCES.md has it.
-    fn differing(rust: String, ours: String) -> Answer {
-        if rust == ours { said(rust) } else { Answer::Differs { rust, ours, why: CLOSED } }
-    }
-
     fn shown(&self, store: &[u8]) -> Answer {
         let record = Record::of(&self.receiver);
         let (kept, staged) = (record.file.len(), record.section.len());
@@ -485,11 +485,11 @@ impl Taken {
         let front = format!("station {station} ioa {ioa} nof {nof} sent {} length {}", record.sent, record.length);
         let line = |kept, staged| format!("{front} kept {kept} staged {staged} done {done}");
         let rust = line(kept, staged);
-        Self::differing(rust, if self.closed { line(self.kept, 0) } else { line(kept, staged) })
+        differing(rust, if self.closed { line(self.kept, 0) } else { line(kept, staged) }, CLOSED)
     }
 
     fn received(&self) -> Answer {
-        Self::differing(self.receiver.received().to_string(), self.held().to_string())
+        differing(self.receiver.received().to_string(), self.held().to_string(), CLOSED)
     }
 
     fn awaited(&self) -> String {
@@ -526,6 +526,9 @@ pub fn of_receiver(kept: &mut Kept, words: &mut Words, line: &str) -> Option<Ans
         "new" => return new_receiver(kept, words),
         "set" => kept.receiver = None,
         _ => {}
+    }
+    if what == "on_asdu" {
+        kept.leave_call();
     }
     let Some(taken) = &mut kept.receiver else {
         kept.store_unknown |= what == "on_asdu";

@@ -10,6 +10,7 @@
 mod answer;
 mod calls;
 mod compare;
+mod directories;
 mod generate;
 mod machines;
 mod parties;

@@ -161,9 +161,8 @@ pub fn run(kept: &mut Kept, words: &mut Words) -> Option<Answer> {
         Err(answer) => return Some(answer),
     };
     // The store is then that of the run.
-    if kept.receiver.as_ref().is_some_and(Taken::holds_octets) {
-        kept.receiver = None;
-    }
+    kept.leave_receiver();
+    kept.leave_call();
     kept.party = None;
     let mut frames = 0;
     while frames < budget && party.step(&mut kept.store).is_some() {
@@ -206,10 +205,9 @@ pub fn of_party(kept: &mut Kept, words: &mut Words) -> Option<Answer> {
     if what == "new" {
         return Some(match party(kept, words)? {
             Ok(party) => {
+                kept.leave_receiver();
+                kept.leave_call();
                 kept.party = Some(party);
-                if kept.receiver.as_ref().is_some_and(Taken::holds_octets) {
-                    kept.receiver = None;
-                }
                 own("made")
             }
             Err(answer) => answer,

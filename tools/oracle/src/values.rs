@@ -27,7 +27,8 @@ fn is_time(time: Cp56Time2a) -> bool {
     Cp56Time2a::parse(&octets_of(|out| time.encode(out))) == Ok(time)
 }
 
-fn packed(entry: &DirectoryEntry) -> Vec<u8> {
+/// The octets of an entry.
+pub fn packed(entry: &DirectoryEntry) -> Vec<u8> {
     let element = FDrTa1 { nof: entry.nof, lof: entry.lof, sof: entry.sof, time: entry.time };
     octets_of(|out| element.encode(out))
 }

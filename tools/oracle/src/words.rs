@@ -99,7 +99,7 @@ impl<'a> Words<'a> {
 
     pub fn u64(&mut self) -> Option<u64> {
         let word = self.word()?;
-        if word.len() > 1 && word.starts_with('0') {
+        if word.len() > 1 && word.starts_with('0') || word.starts_with('+') {
             return None;
         }
         word.parse().ok()

@@ -19,17 +19,17 @@ struct Passing {
     beside: Vec<u8>,
 }
 
-struct Flow<'a> {
-    random: &'a mut Random,
-    case: Case,
-    kept: Kept,
+pub struct Flow<'a> {
+    pub random: &'a mut Random,
+    pub case: Case,
+    pub kept: Kept,
     way: VecDeque<Passing>,
-    w: [u8; 3],
-    ca: u64,
-    ioa: u32,
+    pub w: [u8; 3],
+    pub ca: u64,
+    pub ioa: u32,
     nof: u64,
     /// One frame in so many is changed.
-    trouble: u64,
+    pub trouble: u64,
 }
 
 // Octets as a call has them: counted on, where they are.
@@ -74,7 +74,7 @@ fn length(random: &mut Random) -> u64 {
 
 impl Flow<'_> {
     // Adds a call, and answers what the Rust says to it.
-    fn call(&mut self, line: String) -> String {
+    pub fn call(&mut self, line: String) -> String {
         let answer = calls::answer(&mut self.kept, &line);
         self.case.call(line);
         match answer {
@@ -114,13 +114,13 @@ impl Flow<'_> {
     }
 
     // The header that goes with a frame.
-    fn header(&mut self, text: &str) -> String {
+    pub fn header(&mut self, text: &str) -> String {
         let originator = if self.w[0] == 2 { self.random.octet() } else { 0 };
         format!("{} {} 0 {originator} {} none", type_of(text), cause(text), self.ca)
     }
 
     // A header with a field changed.
-    fn changed_header(&mut self, text: &str) -> String {
+    pub fn changed_header(&mut self, text: &str) -> String {
         let (kind, why) = (type_of(text), cause(text));
         let ca = self.ca;
         match self.random.below(6) {
@@ -262,7 +262,8 @@ impl Flow<'_> {
     }
 }
 
-fn open<'a>(random: &'a mut Random, kind: &'static str, trouble: u64) -> Flow<'a> {
+/// A flow about one file or directory, at random addresses and widths.
+pub fn open<'a>(random: &'a mut Random, kind: &'static str, trouble: u64) -> Flow<'a> {
     let w = *random.of(&WIDTHS);
     let ca = 1 + random.below(u64::from(broadcast(w)) - 1);
     let ioa = random.below(u64::from(max_ioa(w)) + 1) as u32;

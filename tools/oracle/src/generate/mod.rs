@@ -1,7 +1,7 @@
 //! The lists of calls that are compared. A case is a list that makes what it needs, so that it can be played
-//! alone. The tables are the same in every run; the others come from the seed. Pages of the directory and its
-//! call have no calls in replay yet: they belong here as further kinds.
+//! alone. The tables are the same in every run; the others come from the seed.
 
+mod directories;
 mod flows;
 mod tables;
 mod values;
@@ -67,10 +67,29 @@ pub fn tables(take: &mut dyn FnMut(Case)) {
     tables::qualifiers(take);
     tables::sections(take);
     tables::admission(take);
+    directory_tables(take);
+}
+
+pub fn directory_tables(take: &mut dyn FnMut(Case)) {
+    directories::pages(take);
+    directories::call(take);
 }
 
 /// A case of a random kind.
 pub fn random(random: &mut Random) -> Case {
+    if random.once_in(6) { directory(random) } else { transfer(random) }
+}
+
+/// A directory's pages or its call.
+pub fn directory(random: &mut Random) -> Case {
+    match random.below(3) {
+        0 => directories::paged(random),
+        _ => directories::called(random),
+    }
+}
+
+/// A case of any other random kind.
+pub fn transfer(random: &mut Random) -> Case {
     match random.below(16) {
         0 => values::packing(random),
         1 | 2 => values::making(random),

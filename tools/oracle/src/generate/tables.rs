@@ -17,7 +17,7 @@ pub const FRAMES: [(u8, &str, &str); 8] = [
 ];
 
 // The frame that goes under a header of a type: of another type the select.
-fn frame_of(kind: u8) -> (&'static str, &'static str) {
+pub fn frame_of(kind: u8) -> (&'static str, &'static str) {
     let found = FRAMES.iter().find(|frame| frame.0 == kind).unwrap_or(&FRAMES[2]);
     (found.1, found.2)
 }

@@ -28,7 +28,7 @@ fn entry(random: &mut Random) -> String {
 }
 
 // The octets of an entry, now and then with a reserved bit set.
-fn packed(random: &mut Random) -> Vec<u8> {
+pub fn packed(random: &mut Random) -> Vec<u8> {
     let mut octets: Vec<u8> = (0..13).map(|_| random.octet()).collect();
     octets[9] &= 0x9F;
     octets[11] &= 0x0F;
