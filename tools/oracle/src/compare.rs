@@ -279,7 +279,7 @@ impl Comparison {
     fn summary(&self) {
         println!("seed {}, {} calls, {} s", self.options.seed, self.calls, self.begun.elapsed().as_secs());
         println!(
-            "{:38} {:>9} {:>9} {:>9} {:>9} {:>9} {:>9} {:>9}",
+            "{:40} {:>9} {:>9} {:>9} {:>9} {:>9} {:>9} {:>9}",
             "kind", "calls", "same", "both 4", "intended", "own", "outside", "differ"
         );
         let mut all = Count::default();
@@ -313,7 +313,7 @@ impl Comparison {
 
 fn row(kind: &str, count: &Count) {
     let Count { calls, same, own, fours, outside, intended, different } = count;
-    println!("{kind:38} {calls:>9} {same:>9} {fours:>9} {intended:>9} {own:>9} {outside:>9} {different:>9}");
+    println!("{kind:40} {calls:>9} {same:>9} {fours:>9} {intended:>9} {own:>9} {outside:>9} {different:>9}");
 }
 
 /// Writes the random calls that a comparison makes.

@@ -527,15 +527,16 @@ pub fn of_receiver(kept: &mut Kept, words: &mut Words, line: &str) -> Option<Ans
         "set" => kept.receiver = None,
         _ => {}
     }
-    if what == "on_asdu" {
+    let is_frame = matches!(what, "on_asdu" | "on_asdu_mut");
+    if is_frame {
         kept.leave_call();
     }
     let Some(taken) = &mut kept.receiver else {
-        kept.store_unknown |= what == "on_asdu";
+        kept.store_unknown |= is_frame;
         return Some(RECORD);
     };
     match what {
-        "on_asdu" => Some(match arrival(words, line, taken.station.address_sizes())?.0 {
+        "on_asdu" | "on_asdu_mut" => Some(match arrival(words, line, taken.station.address_sizes())?.0 {
             Ok(came) => taken.on_asdu(&came, &mut kept.store),
             Err(outside) => outside,
         }),

@@ -75,9 +75,26 @@ pub fn directory_tables(take: &mut dyn FnMut(Case)) {
     directories::call(take);
 }
 
-/// A case of a random kind.
+/// A case of a random kind. A Receiver is handed its frames by value or by reference; the Rust has the latter only.
 pub fn random(random: &mut Random) -> Case {
-    if random.once_in(6) { directory(random) } else { transfer(random) }
+    if random.once_in(6) {
+        return directory(random);
+    }
+    let case = transfer(random);
+    if random.flag() { by_reference(case) } else { case }
+}
+
+// A transfer whose Receiver is called by reference.
+fn by_reference(mut case: Case) -> Case {
+    case.kind = match case.kind {
+        "transfers" => "transfers, by reference",
+        "flows with changed frames" => "flows with changed frames, by reference",
+        other => other,
+    };
+    for call in &mut case.calls {
+        *call = call.replace("receiver on_asdu ", "receiver on_asdu_mut ");
+    }
+    case
 }
 
 /// A directory's pages or its call.
