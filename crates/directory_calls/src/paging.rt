@@ -1,6 +1,5 @@
-// Calls of the pager, over the file as packed entries, and over the same entries as a lent list.
+// Calls of the pager, over the file as packed entries and over the same entries as a lent list.
 use asdu::EntryResult;
-use list_calls::ListResult;
 use pager::PageResult;
 use pager::PagesResult;
 use values::show;
@@ -31,46 +30,24 @@ fn entry(result: EntryResult) {
     }
 }
 
-// ---- Over a lent list
-
-fn no_list() {
-    write::text(b"no list");
-}
-
-fn listed_pages(result: ListResult) {
-    match result {
-        ListResult::Ok(answers) => {
-            let found = answers.pages;
-            pages(found);
-        }
-        ListResult::NoList => no_list(),
+// One of the answers over the same entries as a lent list, if the file is one.
+fn listed(which: u8, file: &[u8], ioa: u32, number: usize, index: usize) {
+    if !list_calls::is_list(file) {
+        return write::text(b"no list");
+    }
+    let answers = list_calls::over_file(file, ioa, number, index);
+    let of_pages = answers.pages;
+    let of_page = answers.page;
+    let of_entry = answers.entry;
+    match which {
+        3 => pages(of_pages),
+        4 => page(of_page),
+        _ => entry(of_entry),
     }
 }
-
-fn listed_page(result: ListResult) {
-    match result {
-        ListResult::Ok(answers) => {
-            let found = answers.page;
-            page(found);
-        }
-        ListResult::NoList => no_list(),
-    }
-}
-
-fn listed_entry(result: ListResult) {
-    match result {
-        ListResult::Ok(answers) => {
-            let found = answers.entry;
-            entry(found);
-        }
-        ListResult::NoList => no_list(),
-    }
-}
-
-// ---- Calls
 
 // Answers the line, if it is one of these calls.
-pub fn call(line: &[u8], args: &mut Numbers, entries: &[u8], octets: &mut Octets) -> bool {
+pub fn call(line: &[u8], args: &mut Numbers, file: &[u8], octets: &mut Octets) -> bool {
     let which = read::call(
         line,
         b"pager pages
@@ -87,12 +64,11 @@ pager_list entry:88",
     let second = args[1] as usize;
     match which {
         read::MISSING => return false,
-        0 => pages(pager::pages(entries)),
-        1 => page(pager::page_at(ioa, entries, second)),
-        2 => entry(pager::entry_at(entries, first, second)),
-        3 => listed_pages(list_calls::over_file(entries, 0, 0, 0)),
-        4 => listed_page(list_calls::over_file(entries, ioa, second, 0)),
-        _ => listed_entry(list_calls::over_file(entries, 0, first, second)),
+        0 => pages(pager::pages(file)),
+        1 => page(pager::page_at(ioa, file, second)),
+        2 => entry(pager::entry_at(file, first, second)),
+        4 => listed(which, file, ioa, second, 0),
+        _ => listed(which, file, ioa, first, second),
     }
     true
 }

@@ -7,11 +7,12 @@ use asdu::EntryResult;
 use asdu::Lof;
 use asdu::Nof;
 use asdu::Sof;
+use counts::least;
 use pager::PageResult;
 use pager::PagesResult;
 ghost use mathlib.Core.Path.{_≡_};
 ghost use Prim.Native.Nat.{_≤_};
-ghost use lib.ListN.{take};
+ghost use lib.ListN.{take, length};
 ghost use Rattle.pager_list.specs.Listed.{listedPages, listedPage, listedEntry};
 
 // The most entries that a case lends: three pages.
@@ -48,103 +49,93 @@ fn answers(
 
 // ---- The entries of a file
 
-// The octet at this place, or 0.
-fn octet_at(octets: &[u8], place: usize) -> u8 {
-    if place < octets.len() {
-        return octets[place];
-    }
-    0
-}
-
-// The number of two octets.
+// The number of two octets, the lower first.
 fn two_of(low: u8, high: u8) -> u16 {
     low as u16 + 256 * (high as u16)
 }
 
-// Whether the lowest bit is set.
-fn is_odd(octet: u8) -> bool {
-    octet % 2 == 1
-}
-
-// The length, of the octets from place 2 on.
-fn lof_of(octets: &[u8]) -> Lof {
-    let low = two_of(octet_at(octets, 2), octet_at(octets, 3));
-    let high = octet_at(octets, 4);
-    Lof {
-        value: low as u32 + 65536 * (high as u32),
-    }
+// The number of three octets, the lowest first.
+fn three_of(low: u8, middle: u8, high: u8) -> u32 {
+    low as u32 + 256 * (middle as u32) + 65536 * (high as u32)
 }
 
 // The status and the flags above it.
 fn sof_of(octet: u8) -> Sof {
     Sof {
         status: octet % 32,
-        last_file_of_directory: is_odd(octet / 32),
-        name_defines_subdirectory: is_odd(octet / 64),
-        transfer_active: is_odd(octet / 128),
+        last_file_of_directory: octet / 32 % 2 == 1,
+        name_defines_subdirectory: octet / 64 % 2 == 1,
+        transfer_active: 128 <= octet,
     }
 }
 
-// The time, of the octets from place 6 on. A reserved bit stays in the number of its field, in the hours,
+// The time of the octets from place 6 on. A reserved bit stays in the number of its field, in the hours,
 // the month or the year, which is then out of range.
-fn time_of(octets: &[u8]) -> Cp56Time2a {
-    let minutes = octet_at(octets, 8);
-    let hours = octet_at(octets, 9);
-    let day = octet_at(octets, 10);
+fn time_of(octets: &[u8]) -> Cp56Time2a
+    requires { ⌜ 13 ≤ length (now octets) ⌝ }
+{
+    let minutes = octets[8];
+    let hours = octets[9];
+    let day = octets[10];
     Cp56Time2a {
-        milliseconds: two_of(octet_at(octets, 6), octet_at(octets, 7)),
+        milliseconds: two_of(octets[6], octets[7]),
         minutes: minutes % 64,
-        substituted: is_odd(minutes / 64),
-        invalid: is_odd(minutes / 128),
+        substituted: minutes / 64 % 2 == 1,
+        invalid: 128 <= minutes,
         hours: hours % 128,
-        summer_time: is_odd(hours / 128),
+        summer_time: 128 <= hours,
         day_of_month: day % 32,
         day_of_week: day / 32,
-        months: octet_at(octets, 11),
-        years: octet_at(octets, 12),
+        months: octets[11],
+        years: octets[12],
     }
 }
 
-// The entry of the first 13 octets (7.3.6.7), whatever bits are set.
-fn entry_of(octets: &[u8]) -> DirectoryEntry {
+// The entry of 13 octets (7.3.6.7), whatever bits are set.
+fn entry_of(octets: &[u8]) -> DirectoryEntry
+    requires { ⌜ 13 ≤ length (now octets) ⌝ }
+{
     DirectoryEntry {
         nof: Nof {
-            value: two_of(octet_at(octets, 0), octet_at(octets, 1)),
+            value: two_of(octets[0], octets[1]),
         },
-        lof: lof_of(octets),
-        sof: sof_of(octet_at(octets, 5)),
+        lof: Lof {
+            value: three_of(octets[2], octets[3], octets[4]),
+        },
+        sof: sof_of(octets[5]),
         time: time_of(octets),
     }
 }
 
-// The first entries of a file; behind its last one they are all zeros.
+// The entry of this number in a file, or one of zeros.
+fn entry_in(file: &[u8], number: usize) -> DirectoryEntry {
+    if number < file.len() / DirectoryEntry::LEN {
+        return entry_of(&file[number * DirectoryEntry::LEN..]);
+    }
+    entry_of(&[0; DirectoryEntry::LEN])
+}
+
+// The first entries of a file, and entries of zeros behind its last one.
 fn entries_of(file: &[u8]) -> [DirectoryEntry; MOST] {
-    let mut entries = [entry_of(b""); MOST];
-    let mut rest = file;
+    let mut entries = [entry_in(file, 0); MOST];
     let mut i = 0;
     while i < MOST {
-        entries[i] = entry_of(rest);
-        if DirectoryEntry::LEN <= rest.len() {
-            rest = &rest[DirectoryEntry::LEN..];
-        }
+        entries[i] = entry_in(file, i);
         i += 1;
     }
     entries
 }
 
-// What is answered over a file: `NoList` where its octets are no whole entries, or more than `MOST`.
-pub enum ListResult {
-    Ok(ListAnswers),
-    NoList,
+// Whether a file is whole entries, and no more than can be lent.
+pub fn is_list(file: &[u8]) -> bool {
+    if file.len() % DirectoryEntry::LEN == 0 {
+        return file.len() / DirectoryEntry::LEN <= MOST;
+    }
+    false
 }
 
-// The three answers over the entries of a file.
-pub fn over_file(file: &[u8], ioa: u32, page: usize, index: usize) -> ListResult {
-    let count = file.len() / DirectoryEntry::LEN;
-    if file.len() % DirectoryEntry::LEN == 0 {
-        if count <= MOST {
-            return ListResult::Ok(answers(entries_of(file), count, ioa, page, index));
-        }
-    }
-    ListResult::NoList
+// The answers on the entries of a file, or on its first where there are more than can be lent.
+pub fn over_file(file: &[u8], ioa: u32, page: usize, index: usize) -> ListAnswers {
+    let count = least(MOST, file.len() / DirectoryEntry::LEN);
+    answers(entries_of(file), count, ioa, page, index)
 }

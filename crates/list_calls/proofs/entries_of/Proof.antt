@@ -4,10 +4,10 @@ use Rattle.list_calls.proofs.entries_of.Statement.{statement}
 use Rattle.list_calls.proofs.entries_of.Tie as tie
 
 abbrev Inv-loop : tie.InvT-loop
-Inv-loop file entries₀ rest₀ i₀ entries rest i = Unit {0}
+Inv-loop file entries₀ i₀ entries i = Unit {0}
 
 abbrev μ-loop : tie.MeasureT-loop
-μ-loop file entries₀ rest₀ i₀ entries rest i = 37 - i
+μ-loop file entries₀ i₀ entries i = 37 - i
 
 pub entries-of-spec : {M : Type 1} → statement M
 entries-of-spec =
@@ -15,13 +15,9 @@ entries-of-spec =
     (tie.spec
     Inv-loop
     μ-loop
-    (λ c. search needs)
     (λ c κs. search needs)
     (λ c. search needs)
     (λ c κs. search needs)
-    (λ c. search needs)
-    (λ c. search needs)
-    (λ c. search needs)
     (λ c. search needs)
     (λ c. search needs)
     (λ c. search needs)
