@@ -2,6 +2,8 @@
 use Prim.Native.Nat.{ℕ}
 use mathlib.Core.Bool.{Bool}
 use mathlib.Core.List.{List, []}
+use lib.Dec.{eqb}
+use Rattle.laws.specs.When.{when, _and_}
 use Rattle.asdu.specs.declared.Header.{Header}
 use Rattle.asdu.specs.declared.UnknownField.the-variants as U
 use Rattle.frame.specs.declared.Frame.{Frame}
@@ -16,7 +18,7 @@ use Rattle.provide.specs.declared.Reply.{Reply}
 use Rattle.receive.specs.Record.{awaited}
 use Rattle.receive.specs.Answers.{Outcome, receive}
 use Rattle.receive.specs.declared.Receiver.{Receiver}
-use Rattle.radio.specs.Radio.{arriving}
+use Rattle.exchange.specs.Damaging.{raised}
 
 -- the header of a station's own frame
 abbrev pub headerBy : FileTransferProcedure → Frame → Header
@@ -25,6 +27,10 @@ headerBy s f = headerOf (s .ca) (s .org) f
 -- the Provider is handed the Receiver's frame
 abbrev pub providerHanded : Provider → Receiver → List ℕ → ProviderStep
 providerHanded p r file = provide p file (headerBy (r .procedure) (awaited r)) U.Nothing (D.Frame (awaited r)) []
+
+-- a segment's payload as it arrives: the first octet of a damaged sending is raised
+unfoldable pub arriving : Bool → ℕ → List ℕ → List ℕ
+arriving damaged i payload = when (damaged and eqb i 0) (raised payload) payload
 
 -- the Receiver is handed the Provider's frame, with what arrives beside it
 abbrev pub receiverHanded : Provider → Receiver → List ℕ → List ℕ → Reply → ℕ → Bool → Frame → Outcome

@@ -1,19 +1,19 @@
--- The damage list read entry by entry, the section that has octets by where it begins, and the raised octets of a segment in a buffer.
-use Prim.Native.Nat.{ℕ, _+_, _-_, _*_, _%_, _≤_, _<_, min}
-use mathlib.Core.Path.{_≡_, refl, sym, _∙_}
+-- The damage list read entry by entry, and the section that has octets by where it begins.
+use Prim.Native.Nat.{ℕ, _+_, _-_, _*_, _≤_, _<_, min}
+use mathlib.Core.Path.{_≡_, sym, _∙_}
 use mathlib.Core.Bool.{Bool, true, false}
-use mathlib.Core.List.{List, [], _∷_}
+use mathlib.Core.List.{List}
 use native.Mathlib.Numerals.{add-one}
 use native.Mathlib.Omega.{arith}
 use native.Mathlib.Decide.{decLe}
 use lib.Dec.{eqb, ltb}
-use lib.ListN.{length, take, drop, getD, set, length-take, length-drop}
-use lib.Seq.{take-all, take-suc, take-suc-set, drop-cons}
+use lib.ListN.{length, drop, getD, length-take, length-drop}
+use lib.Seq.{drop-cons}
 use borrow.Author.Tests.{lt-ltb, le-ltb, eq-eqb, ne-eqb}
 use Rattle.laws.specs.When.{when}
 use Rattle.laws.proofs.Decide.{whens}
 use Rattle.provide.specs.Sections.{sectionOctets}
-use Rattle.exchange.specs.Damaging.{raised, namings}
+use Rattle.exchange.specs.Damaging.{namings}
 use Rattle.radio.specs.Radio.{hasOctets, allHaveOctets}
 
 pub at-most-one : (b : Bool) (r : ℕ) → r ≡ when b 1 0 → r ≤ 1
@@ -52,21 +52,3 @@ module _ (size : ℕ) (file : List ℕ) (nos : ℕ) (named : nos ≡ 0 → ⊥) 
           let some : 0 < size = omega arith in
           let within : (nos - 1) * size < length file = omega arith in
           lt-ltb _ _ within ∙ sym (has-octets-by ∙ lt-ltb 0 (min size (length file - (nos - 1) * size)) (omega arith))
-
--- one octet more is copied
-pub copied-next : (o out : List ℕ) (i : ℕ) → i < length o → i < length out → take i out ≡ take i o
-    → take (i + 1) (set out i (getD o i 0)) ≡ take (i + 1) o
-copied-next o out i h k e = rw (add-one, take-suc-set out i (getD o i 0), take-suc o i 0, e)
-
-pub copied-all : (o out : List ℕ) (i : ℕ) → i ≡ length o → take i out ≡ take i o → take (length o) out ≡ o
-copied-all o out i e h = rw (← e) (h ∙ take-all i o (omega arith))
-
-pub raised-none : (o out : List ℕ) → length o ≡ 0 → take (length o) out ≡ raised o
-raised-none [] out e = refl
-raised-none (x ∷ o) out e = absurd (omega arith)
-
--- the first octet of a copy is raised
-pub raised-front : (o out : List ℕ) → 0 < length o → take (length o) out ≡ o → take (length o) (set out 0 ((getD o 0 0 + 1) % 256)) ≡ raised o
-raised-front [] out h e = e
-raised-front (x ∷ o) [] h e = cc
-raised-front (x ∷ o) (y ∷ out) h e = let t : take (length o) out ≡ o = cc in rw t

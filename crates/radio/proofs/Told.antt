@@ -1,26 +1,22 @@
 -- A reply of the Provider's on its way, frame by frame: what the exchange's `flown` makes of it under the noise of a script.
-use Prim.Native.Nat.{ℕ, zero, suc, _≤_, _<_}
+use Prim.Native.Nat.{ℕ, zero, suc, _≤_}
 use mathlib.Core.Path.{_≡_, refl, ap}
 use mathlib.Core.Bool.{Bool, true, false}
 use mathlib.Core.List.{List, [], _∷_, _++_, map}
 use native.Mathlib.Omega.{arith}
-use lib.ListN.{length, drop, getD}
-use borrow.Author.Tests.{ne-eqb}
+use lib.ListN.{length, drop}
 use Rattle.laws.specs.When.{when}
 use Rattle.asdu.specs.declared.Nos.{Nos}
 use Rattle.frame.specs.declared.Frame.{Frame}
 use Rattle.provide.specs.Replies.{Packet, bare, segmentPacket}
 use Rattle.provide.specs.declared.Provider.{Provider}
-use Rattle.exchange.specs.Exchange.{Side, byProvider, arrives, Passing, flown}
+use Rattle.exchange.specs.Exchange.{byProvider, arrives, Passing, flown}
 use Rattle.exchange.specs.Damaging.{raised, hurt, unhurt}
-use Rattle.radio.specs.Radio.{arriving}
 
 -- the first frame's payload is raised where the sending is damaged
 abbrev pub told : Bool → List Packet → List Passing
 told d [] = []
 told d (x ∷ xs) = record { sender = byProvider; packet = x; fate = arrives (when d (raised (x .payload)) (x .payload)) } ∷ told false xs
-
--- ---- as the radio's fates
 
 pub flown-none : (xs : List Packet) → flown [] xs ≡ told false xs
 unfolding when
@@ -48,20 +44,7 @@ module _ (p : Provider) (nos : Nos) (c : Frame) where
   flown-hurt [] = refl
   flown-hurt (o ∷ os) = ap (λ (r : List Passing). record { sender = byProvider; packet = segmentPacket p nos o; fate = arrives (raised o) } ∷ r) (flown-unhurt os)
 
--- ---- by index
-
--- frame i on its way
-abbrev pub passingAt : Bool → ℕ → Packet → Passing
-passingAt d i x = record { sender = byProvider; packet = x; fate = arrives (arriving d i (x .payload)) }
-
-pub told-at : (d : Bool) (i : ℕ) (xs : List Packet) (z : Packet) → i < length xs → drop i (told d xs) ≡ passingAt d i (getD xs i z) ∷ drop (suc i) (told d xs)
-unfolding arriving when
-told-at d i [] z h = absurd (omega arith)
-told-at true zero (x ∷ xs) z h = refl
-told-at false zero (x ∷ xs) z h = refl
-told-at true (suc i) (x ∷ xs) z h = rw (ne-eqb (suc i) 0 (λ e. omega arith)) (told-at false i xs z (omega arith))
-told-at false (suc i) (x ∷ xs) z h = told-at false i xs z (omega arith)
-
+-- past its end nothing is on its way
 pub told-past : (d : Bool) (i : ℕ) (xs : List Packet) → length xs ≤ i → drop i (told d xs) ≡ []
 told-past d zero [] h = refl
 told-past d (suc i) [] h = refl

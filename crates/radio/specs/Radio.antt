@@ -9,7 +9,7 @@ use Rattle.provide.specs.Sections.{sectionOctets}
 use Rattle.provide.specs.declared.Reply.{Reply}
 use Rattle.provide.specs.declared.ProviderAnswer.{ProviderAnswer}
 use Rattle.exchange.specs.Exchange.{isSection, isSending}
-use Rattle.exchange.specs.Damaging.{raised, namings}
+use Rattle.exchange.specs.Damaging.{namings}
 use Rattle.radio.specs.declared.Radio.{Radio}
 
 -- section `nos` of a file cut into sections of `size` octets has octets
@@ -42,7 +42,3 @@ isDamaged r reply = isSection reply and ltb 0 (r .left)
 -- the sendings to come after the Provider's answer
 abbrev pub afterAnswer : List ℕ → Radio → ProviderAnswer → Radio
 afterAnswer damage r a = when (isSending a) (afterSending damage r) r
-
--- a segment's payload as it arrives: the first octet of a damaged sending is raised
-unfoldable pub arriving : Bool → ℕ → List ℕ → List ℕ
-arriving damaged i payload = when (damaged and eqb i 0) (raised payload) payload

@@ -36,16 +36,17 @@ use Rattle.receive.specs.declared.ReceiverStep.{ReceiverStep}
 use Rattle.receive.specs.declared.ToSend.the-variants as T
 use Rattle.exchange.specs.Exchange.{Side, byReceiver, Passing, untouched, providerSends, packetsOf, receiverSends, isSending, Noise, onTheWay, sendingsLeft, Exchange, provided, taken, stepOn, step, begun, ownHeaders}
 use Rattle.exchange.proofs.Begins.{payloads-behind}
-use Rattle.delivery.specs.Handed.{headerBy}
+use Rattle.delivery.specs.Handed.{headerBy, arriving}
 use Rattle.twoparty.specs.Party.{startedParty, asked, replied, afterProvider, afterReceiver, advanced}
 use Rattle.twoparty.proofs.Standing.{queueOf, none, packetAt, frame-is, first-is}
-use Rattle.radio.specs.Radio.{afterSending, arriving, isDamaged}
+use Rattle.radio.specs.Radio.{afterSending, isDamaged}
 use Rattle.twoparty.specs.declared.Queue.{Queue}
 use Rattle.twoparty.specs.declared.Queue.the-variants as Q
 use Rattle.radio.specs.declared.Radio.{Radio}
 use Rattle.twoparty.specs.declared.TwoParty.{TwoParty}
 use Rattle.run.proofs.Machines.{station-same, agreement-same, Stays, receive-stays, agreement-stays, segment-silent}
-use Rattle.radio.proofs.Told.{told, bare-told, flown-none, passingAt, told-past}
+use Rattle.radio.proofs.Told.{told, bare-told, flown-none, told-past}
+use Rattle.twoparty.proofs.Passing.{passingAt}
 use Rattle.radio.proofs.Tuning.{Unnamed, Tuned, tuned-next, tuned-sent}
 
 -- ---- the queue

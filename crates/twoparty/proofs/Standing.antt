@@ -18,7 +18,8 @@ use Rattle.receive.specs.Record.{awaited}
 use Rattle.receive.specs.declared.Receiver.{Receiver}
 use Rattle.exchange.specs.Exchange.{Side, byProvider, byReceiver, Passing, untouched}
 use Rattle.exchange.specs.Lines.{sideOf}
-use Rattle.radio.proofs.Told.{told, passingAt, told-at, told-past}
+use Rattle.radio.proofs.Told.{told, told-past}
+use Rattle.twoparty.proofs.Passing.{passingAt, told-at}
 use Rattle.twoparty.specs.Party.{first, nextFrame}
 use Rattle.twoparty.specs.Shown.{nameOf, firstOf}
 use Rattle.twoparty.specs.declared.Queue.{Queue}

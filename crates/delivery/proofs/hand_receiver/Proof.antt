@@ -1,6 +1,6 @@
 use denote.Ref.{now}
 use borrow.Author.Needs.{needs}
-use Rattle.radio.specs.Radio.{arriving}
+use Rattle.delivery.specs.Handed.{arriving}
 use Rattle.delivery.proofs.Short.{payload-short}
 use Rattle.delivery.proofs.hand_receiver.Statement.{statement}
 use Rattle.delivery.proofs.hand_receiver.Tie as tie

@@ -4,7 +4,7 @@ use mathlib.Core.Path.{_≡_, refl}
 use native.Mathlib.Omega.{arith}
 use lib.ListN.{length, take, length-set}
 use borrow.Author.Needs.{needs}
-use Rattle.radio.proofs.Damage.{copied-next, copied-all, raised-front, raised-none}
+use Rattle.delivery.proofs.Raised.{copied-next, copied-all, raised-front, raised-none}
 use Rattle.delivery.proofs.noise.raise.Statement.{statement}
 use Rattle.delivery.proofs.noise.raise.Tie as tie
 
