@@ -5,14 +5,14 @@ use mathlib.Core.Bool.{Bool, true, false, true≢false}
 use mathlib.Core.List.{List, [], _∷_}
 use native.Mathlib.Omega.{arith}
 use native.Mathlib.Nat.{suc-mul, zero-mul}
-use lib.Dec.{eqb, ltb}
+use lib.Dec.{eqb}
 use lib.ListN.{length, take, drop, length-take, length-drop}
 use lib.Seq.{drop-drop}
 use borrow.Author.Tests.{eqb-true, ltb-true}
 use Rattle.laws.specs.When.{when}
 use Rattle.asdu.proofs.Range.{both}
 use Rattle.lists.specs.Parts.{parts}
-use Rattle.provide.specs.Sections.{sectionLength, sectionCount, sections, sectionOctets}
+use Rattle.provide.specs.Sections.{sectionLength, sectionCount, sections}
 use Rattle.provide.proofs.SectionLaws.{enough, section-from}
 use Rattle.exchange.specs.Damaging.{namings, Nameable}
 use Rattle.radio.specs.Radio.{hasOctets, allHaveOctets}

@@ -1,19 +1,19 @@
 -- The run's radio record stands for the sendings to come of the exchange's radio.
 use Prim.Native.Nat.{ℕ, zero, suc, _+_, _-_, _≤_, _<_}
-use mathlib.Core.Path.{_≡_, refl, sym, ap, _∙_}
+use mathlib.Core.Path.{_≡_, refl}
 use mathlib.Core.Bool.{Bool, true, false}
 use mathlib.Core.List.{List, [], _∷_, _++_, map}
 use native.Mathlib.Omega.{arith}
 use native.Mathlib.Numerals.{add-one}
 use lib.Dec.{ltb}
-use lib.ListN.{length, replicate}
-use borrow.Author.Tests.{lt-ltb, le-ltb}
+use lib.ListN.{replicate}
+use borrow.Author.Tests.{lt-ltb}
 use Rattle.laws.specs.When.{when}
 use Rattle.asdu.specs.declared.Nos.{Nos}
 use Rattle.frame.specs.declared.Frame.{Frame}
 use Rattle.provide.specs.Replies.{bare, segmentPacket}
 use Rattle.provide.specs.declared.Provider.{Provider}
-use Rattle.exchange.specs.Exchange.{Noise, nextSending, sendingsLeft, flown, Passing}
+use Rattle.exchange.specs.Exchange.{Noise, nextSending, sendingsLeft, flown}
 use Rattle.exchange.specs.Transfer.{inOrder}
 use Rattle.exchange.specs.Damaging.{hurt, unhurt, namings, scriptRadio}
 use Rattle.radio.specs.Radio.{firstSection, nextSection, afterSending}

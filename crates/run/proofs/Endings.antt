@@ -33,11 +33,10 @@ use Rattle.exchange.proofs.Ordering.{in-order}
 use Rattle.twoparty.specs.Party.{stationOf, withProvider, partyMade}
 use Rattle.run.specs.Loop.{Ran, ranFrom}
 use Rattle.radio.specs.Radio.{allHaveOctets}
-use Rattle.run.specs.Run.{exchangeOf, endingBy, ending, refused, twoParty, scriptFrames}
+use Rattle.run.specs.Run.{exchangeOf, ending, refused, twoParty, scriptFrames}
 use Rattle.twoparty.specs.declared.Settings.{Settings}
 use Rattle.twoparty.specs.declared.TwoParty.{TwoParty}
 use Rattle.twoparty.specs.declared.TwoPartyResult.the-variants as T
-use Rattle.run.specs.declared.RunResult.{RunResult}
 use Rattle.run.specs.declared.RunResult.the-variants.{Whole, Spent}
 use Rattle.radio.proofs.Named.{nameable}
 use Rattle.run.proofs.Running.{Accepted, providing, receiving, beginning, provider-made, receiver-made, run-is}

@@ -1,11 +1,10 @@
 -- The run's record, frame by frame, is the exchange: one step of the record is one step of the exchange that it stands for.
-use Prim.Native.Nat.{ℕ, zero, suc, _+_, _≤_, _<_}
+use Prim.Native.Nat.{ℕ, suc, _+_, _≤_, _<_}
 use mathlib.Core.Path.{_≡_, refl, sym, ap, _∙_}
 use mathlib.Core.Bool.{Bool, true, false, true≢false}
 use mathlib.Core.List.{List, [], _∷_, _++_, map, append-nil}
 use native.Mathlib.Omega.{arith}
 use native.Mathlib.Decide.{decLt}
-use lib.Dec.{ltb}
 use lib.ListN.{length}
 use borrow.Author.Tests.{lt-ltb}
 use Rattle.laws.specs.When.{when}
@@ -34,7 +33,7 @@ use Rattle.receive.specs.declared.Receiver.{Receiver}
 use Rattle.receive.specs.declared.ReceiverAnswer.{ReceiverAnswer}
 use Rattle.receive.specs.declared.ReceiverStep.{ReceiverStep}
 use Rattle.receive.specs.declared.ToSend.the-variants as T
-use Rattle.exchange.specs.Exchange.{Side, byReceiver, Passing, untouched, providerSends, packetsOf, receiverSends, isSending, Noise, onTheWay, sendingsLeft, Exchange, provided, taken, stepOn, step, begun, ownHeaders}
+use Rattle.exchange.specs.Exchange.{byReceiver, Passing, untouched, providerSends, packetsOf, receiverSends, isSending, Noise, onTheWay, sendingsLeft, Exchange, provided, taken, stepOn, step, begun, ownHeaders}
 use Rattle.exchange.proofs.Begins.{payloads-behind}
 use Rattle.delivery.specs.Handed.{headerBy, arriving}
 use Rattle.twoparty.specs.Party.{startedParty, asked, replied, afterProvider, afterReceiver, advanced}

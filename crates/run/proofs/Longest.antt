@@ -11,8 +11,8 @@ use Rattle.laws.specs.When.{when}
 use Rattle.lists.specs.Parts.{divCeil, parts}
 use Rattle.ft.specs.Procedure.{conventional}
 use Rattle.provide.specs.Sections.{sectionLength, sectionCount, sections}
-use Rattle.exchange.specs.Transfer.{Sendings, sendingFrames, damagedSendings}
-use Rattle.exchange.specs.Damaging.{hurt, namings, scriptRadio}
+use Rattle.exchange.specs.Transfer.{sendingFrames, damagedSendings}
+use Rattle.exchange.specs.Damaging.{namings, scriptRadio}
 use Rattle.exchange.proofs.Script.{limit-is}
 use Rattle.run.specs.Run.{scriptFrames}
 use Rattle.twoparty.specs.declared.Settings.{Settings}

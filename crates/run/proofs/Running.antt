@@ -6,12 +6,12 @@ use mathlib.Core.List.{List, [], _∷_, _++_}
 use native.Mathlib.Omega.{arith}
 use lib.Dec.{leb}
 use lib.ListN.{length, length-append}
-use borrow.Author.Tests.{leb-true, le-leb}
+use borrow.Author.Tests.{le-leb}
 use Rattle.laws.specs.When.{when}
-use Rattle.asdu.specs.Sizes.{sizesRight, maxIoa}
+use Rattle.asdu.specs.Sizes.{sizesRight}
 use Rattle.asdu.specs.declared.FtError.the-variants as E
 use Rattle.ft.specs.Directions.{otherRole}
-use Rattle.ft.specs.Procedure.{addressRight, addressed}
+use Rattle.ft.specs.Procedure.{addressed}
 use Rattle.ft.specs.Building.{built}
 use Rattle.ft.specs.declared.AsduResult.{AsduResult}
 use Rattle.ft.specs.declared.AsduResult.the-variants as A
@@ -28,20 +28,20 @@ use Rattle.receive.specs.declared.Receiver.{Receiver}
 use Rattle.receive.specs.declared.ReceiverAnswer.{ReceiverAnswer}
 use Rattle.receive.specs.declared.ReceiverAnswer.the-variants as RA
 use Rattle.receive.specs.declared.ReceiverResult.the-variants as RM
-use Rattle.exchange.specs.Exchange.{Passing, Noise, Exchange, run, begun, ownHeaders}
+use Rattle.exchange.specs.Exchange.{Passing, Noise, Exchange, run, ownHeaders}
 use Rattle.exchange.specs.Transfer.{inOrder}
 use Rattle.exchange.specs.Damaging.{scriptRadio}
 use Rattle.exchange.proofs.Budget.{stays}
 use Rattle.twoparty.specs.Party.{stationOf, startedParty, advanced}
 use Rattle.twoparty.specs.Shown.{firstOf}
 use Rattle.twoparty.proofs.Standing.{next-shown}
-use Rattle.run.specs.Loop.{Ran, isOver, whole, usedUp, ranOn}
+use Rattle.run.specs.Loop.{isOver, usedUp, ranOn}
 use Rattle.radio.specs.Radio.{firstSection, allHaveOctets}
 use Rattle.run.specs.Run.{exchangeOf, ending}
 use Rattle.twoparty.specs.declared.Settings.{Settings}
 use Rattle.twoparty.specs.declared.TwoParty.{TwoParty}
 use Rattle.radio.proofs.Tuning.{Unnamed, Tuned, tuned-first}
-use Rattle.run.proofs.Following.{standsFor, Fits, Next, Sight, over, going, sight, start-stands}
+use Rattle.run.proofs.Following.{standsFor, Fits, Sight, over, going, sight, start-stands}
 use Rattle.radio.proofs.Named.{unnamed}
 
 module _ (file damage : List ℕ) (ca count : ℕ) (few : count ≤ 255) (none : Unnamed damage count) where

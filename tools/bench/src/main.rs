@@ -155,6 +155,11 @@ fn floor(case: &Case, store: &mut [u8]) -> u8 {
     }
 }
 
+// Work whose result nobody reads is still to be done.
+fn done<T>(result: T) {
+    let _ = black_box(result);
+}
+
 fn nanoseconds(work: impl FnOnce()) -> f64 {
     let began = Instant::now();
     work();
@@ -179,9 +184,9 @@ fn transfers(length: usize, damaged: bool, rounds: usize) {
     let mut taken = [Vec::new(), Vec::new(), Vec::new()];
     for _ in 0..rounds {
         let repeat = |work: &mut dyn FnMut()| nanoseconds(|| (0..times).for_each(|_| work())) / times as f64;
-        taken[0].push(repeat(&mut || drop(black_box(ours(&case, &mut store)))));
-        taken[1].push(repeat(&mut || drop(black_box(rust(&case)))));
-        taken[2].push(repeat(&mut || drop(black_box(floor(&case, &mut store)))));
+        taken[0].push(repeat(&mut || done(ours(&case, &mut store))));
+        taken[1].push(repeat(&mut || done(rust(&case))));
+        taken[2].push(repeat(&mut || done(floor(&case, &mut store))));
     }
     let [mine, theirs, least] = taken.map(|mut times| median(&mut times));
     let a_frame = mine / frames as f64;
@@ -204,16 +209,23 @@ fn sums(length: usize, rounds: usize) {
     let times = (20_000_000 / length).max(1);
     let mut taken = [Vec::new(), Vec::new()];
     for _ in 0..rounds {
-        taken[0].push(nanoseconds(|| (0..times).for_each(|_| drop(black_box(mine())))) / times as f64);
-        taken[1].push(nanoseconds(|| (0..times).for_each(|_| drop(black_box(least())))) / times as f64);
+        taken[0].push(nanoseconds(|| (0..times).for_each(|_| done(mine()))) / times as f64);
+        taken[1].push(nanoseconds(|| (0..times).for_each(|_| done(least()))) / times as f64);
     }
     let [mine, least] = taken.map(|mut times| median(&mut times));
-    println!("| {length} | {:.2} | {:.2} | {:.2} |", mine / length as f64 * 1e3, least / length as f64 * 1e3, mine / least);
+    println!(
+        "| {length} | {:.2} | {:.2} | {:.2} |",
+        mine / length as f64 * 1e3,
+        least / length as f64 * 1e3,
+        mine / least
+    );
 }
 
 fn main() {
     let rounds: usize = std::env::args().nth(1).and_then(|word| word.parse().ok()).unwrap_or(21);
-    println!("| file, octets | damage | frames | ns a frame | million frames a second | to the Rust | floor, ns a frame | to the floor |");
+    println!(
+        "| file, octets | damage | frames | ns a frame | million frames a second | to the Rust | floor, ns a frame | to the floor |"
+    );
     println!("|---|---|---|---|---|---|---|---|");
     for length in [9_000, 1_000_000, 16_777_215] {
         for damaged in [false, true] {

@@ -55,6 +55,7 @@ fn call(kept: &mut Kept, words: &mut Words, line: &str) -> Option<Answer> {
         "provider" => machines::of_provider(kept, words, line),
         "receiver" => machines::of_receiver(kept, words, line),
         "pager" => directories::of_pager(kept, words),
+        "pager_list" => directories::of_list(kept, words),
         "call" => directories::of_call(kept, words, line),
         "party" => parties::of_party(kept, words),
         "run" => parties::run(kept, words),

@@ -6,6 +6,7 @@
 
 use crate::answer::{ADDRESS, Answer, INDEX, OURS, PAGE, RANGE, RECORD, own, said};
 use crate::calls::Kept;
+use crate::generate::MOST_LISTED;
 use crate::machines::{between, differing, is_outside, sent_frame};
 use crate::show;
 use crate::stations::{self, Arrival, Sort, arrival, refusal, sent_back};
@@ -18,6 +19,9 @@ use iec104::ft::{DirectoryEntry, FileTransferProcedure, Frame, FtError, Selectio
 
 /// An entry's octets in the store.
 const STORED: usize = 17;
+
+/// An entry's octets, packed.
+const PACKED: usize = 13;
 
 // ---- The pager
 
@@ -66,6 +70,14 @@ pub fn of_pager(kept: &Kept, words: &mut Words) -> Option<Answer> {
         "entry" => entry_of(kept, words),
         _ => None,
     }
+}
+
+/// The same over a list of entries. The Rust has no other form; what is no list is the test program's own.
+pub fn of_list(kept: &Kept, words: &mut Words) -> Option<Answer> {
+    let count = (kept.file.len() / PACKED) as u64;
+    let is_list = kept.file.len().is_multiple_of(PACKED) && count <= MOST_LISTED;
+    let answer = of_pager(kept, words)?;
+    Some(if is_list { answer } else { own("no list") })
 }
 
 // ---- The call

@@ -50,6 +50,9 @@ const FIRST: [u32; 30] = [
 /// How many entries: about one page, two and three, and as many as a list can lend.
 const ENTRIES: [u64; 16] = [0, 1, 2, 17, 18, 19, 35, 36, 37, 53, 54, 55, 90, 91, 707, 708];
 
+/// As many entries as a list has.
+pub const MOST_LISTED: u64 = 37;
+
 // Every page of so many entries at every address, and entries about its ends. They count from 0 to 13 and again,
 // so that no two neighbours are alike; no reserved bit is set.
 fn every_page(take: &mut dyn FnMut(Case), count: u64, w: [u8; 3]) {
@@ -82,6 +85,21 @@ fn every_status(take: &mut dyn FnMut(Case)) {
     take(case);
 }
 
+// The same over a lent list of entries, as many as the test program can lend.
+fn over_lists(take: &mut dyn FnMut(Case)) {
+    let mut listed = |mut case: Case| {
+        case.kind = "directory: pages over a list";
+        for call in &mut case.calls {
+            *call = call.replace("pager ", "pager_list ");
+        }
+        take(case);
+    };
+    for count in ENTRIES.into_iter().filter(|&count| count <= MOST_LISTED) {
+        every_page(&mut listed, count, [2, 2, 3]);
+    }
+    every_status(&mut listed);
+}
+
 pub fn pages(take: &mut dyn FnMut(Case)) {
     for count in ENTRIES {
         every_page(take, count, [2, 2, 3]);
@@ -92,6 +110,7 @@ pub fn pages(take: &mut dyn FnMut(Case)) {
         }
     }
     every_status(take);
+    over_lists(take);
 }
 
 // ---- Tables: the call

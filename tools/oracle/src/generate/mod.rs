@@ -7,6 +7,7 @@ mod tables;
 mod values;
 
 use crate::random::Random;
+pub use directories::MOST_LISTED;
 
 pub struct Case {
     pub kind: &'static str,
