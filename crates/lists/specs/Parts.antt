@@ -1,4 +1,4 @@
--- A list cut into parts of a size, and a division rounded up: sections of a file and segments of a section are both this.
+-- A list cut into parts of a size, and a division rounded up: sections of a file and segments of a section (document 01, The Provider's record) are both this.
 use Prim.Native.Nat.{ℕ, zero, suc, _+_, _-_, _/_}
 use mathlib.Core.List.{List, [], _∷_, _++_}
 use lib.ListN.{take, drop}

@@ -1,4 +1,4 @@
--- The radio of a transfer script, by the section under way and the damaged sendings that are left of it.
+-- The radio of a transfer script (document 01, A transfer script), by the section under way and the damaged sendings that are left of it.
 use Prim.Native.Nat.{ℕ, _+_, _-_}
 use mathlib.Core.Bool.{Bool, true}
 use mathlib.Core.List.{List, [], _∷_}

@@ -1,4 +1,4 @@
--- What a transfer shows, frame by frame: the next frame, then one step, and so on.
+-- What a transfer shows, frame by frame (document 01, A transfer script): the next frame, then one step, and so on.
 use Prim.Native.Nat.{ℕ, zero, suc}
 use mathlib.Core.List.{List, [], _∷_}
 use Rattle.twoparty.specs.Party.{nextFrame, partyStepped}

@@ -1,4 +1,4 @@
--- What reading a script answers, and what it leaves in the buffers.
+-- What reading a script (document 01, A transfer script) answers, and what it leaves in the buffers.
 use Prim.Native.Nat.{ℕ}
 use mathlib.Core.Option.{Option, none, some}
 use mathlib.Core.List.{List, _++_}

@@ -1,4 +1,4 @@
--- A lent store of octets, and octets written into it.
+-- A lent store of octets (document 01, The Receiver's record), and octets written into it.
 use Prim.Native.Nat.{ℕ, _+_}
 use mathlib.Core.List.{List, _++_}
 use lib.ListN.{length, take, drop}

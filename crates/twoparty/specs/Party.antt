@@ -1,4 +1,4 @@
--- The exchange a second time, as the code's record keeps it: the queue is one frame of the Receiver's, or the rest of one reply of the Provider's, and the sendings to come are a section and a number.
+-- The exchange (document 01, The exchange) a second time, as the code's record keeps it: the queue is one frame of the Receiver's, or the rest of one reply of the Provider's, and the sendings to come are a section and a number.
 -- What a customer must believe is the exchange (exchange/specs/Exchange.antt). These laws tie the two: `next-shown` (proofs/Standing.antt), that the frame shown is the first of the exchange's queue; `sight` (run/proofs/Following.antt), that a step here is a step there; `run-is` (run/proofs/Running.antt) and `frames-shown` (run/proofs/Showing.antt), that whole runs are the same.
 use Prim.Native.Nat.{ℕ, _+_}
 use mathlib.Core.Bool.{Bool}

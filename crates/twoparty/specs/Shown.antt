@@ -1,4 +1,4 @@
--- What is shown of the frames on their way: the first of them, under the code's name of its sender.
+-- What is shown of the frames on their way (document 01, A transfer script): the first of them, under the code's name of its sender.
 use mathlib.Core.List.{List, [], _∷_}
 use Rattle.exchange.specs.Exchange.{Side, byProvider, byReceiver, Passing}
 use Rattle.exchange.specs.declared.Sender.{Sender}
