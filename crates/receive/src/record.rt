@@ -11,11 +11,10 @@ use asdu::Nof;
 use asdu::Nos;
 use asdu::Scq;
 use frame::Frame;
-use ft::AsduResult;
 use ft::FileTransferProcedure;
 use ft::procedure;
 ghost use mathlib.Core.Path.{_≡_};
-ghost use Rattle.receive.specs.Record.{freshReceiver, receiverMade, storeAgrees, receivedOctets, request, acknowledge, awaited, startedWith, started};
+ghost use Rattle.receive.specs.Record.{freshReceiver, receiverMade, storeAgrees, receivedOctets, request, acknowledge, awaited, started};
 
 impl Receiver {
     // The record before anything is sent or has arrived.
@@ -116,30 +115,26 @@ impl Receiver {
         }
     }
 
-    // The step after `build` made a frame of the select, or refused.
-    fn started_with(self, select: AsduResult) -> ReceiverStep
-        ensures { λ r. ⌜ r ≡ startedWith self select ⌝ }
-    {
-        match select {
-            AsduResult::Ok(_) => {
-                return self.asks(Sent::Request {
-                    action: Scq::SELECT_FILE,
-                    nos: Nos { value: 0 },
-                });
-            }
-            AsduResult::Err(error) => return self.refuses(error),
-        }
-    }
-
-    // The select that opens the transfer, of a done record too: 26, then 21, 22.
+    // The select that opens the transfer, of a done record too: 26, then 21, 22. What else `build` refuses
+    // of a frame cannot come: the select's values are in range, and the address was judged with the record.
     pub fn start(self, store: &[u8]) -> ReceiverStep
         ensures { λ r. ⌜ r ≡ started self (now (store .entry)) ⌝ }
     {
         let procedure = self.procedure;
-        if self.agrees(store) {
-            let select = self.request(Scq::SELECT_FILE, Nos { value: 0 });
-            return self.started_with(procedure.build(select, &[]));
+        let role = procedure.role;
+        let selection = procedure.selection;
+        if !self.agrees(store) {
+            return self.refuses(FtError::RecordMismatch);
         }
-        self.refuses(FtError::RecordMismatch)
+        if !selection.uses_function() {
+            return self.refuses(FtError::FunctionNotUsed);
+        }
+        if !procedure.serves(role, true) {
+            return self.refuses(FtError::NotSelectedDirection);
+        }
+        self.asks(Sent::Request {
+            action: Scq::SELECT_FILE,
+            nos: Nos { value: 0 },
+        })
     }
 }
