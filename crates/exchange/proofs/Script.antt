@@ -21,6 +21,7 @@ use Rattle.provide.specs.Record.{freshProvider, providerMade, fileAgrees}
 use Rattle.provide.specs.Requests.{onSc, afterSection, onAck, isOurs, onRequest, provide}
 use Rattle.receive.specs.Record.{freshReceiver, receiverMade, storeAgrees, awaited, started}
 use Rattle.store.specs.Store.{written}
+use Rattle.acceptance.specs.Closed.{sectionClosed, fileClosed}
 use Rattle.receive.specs.Answers.{onFileReady, onSectionReady, onSectionClose, onFileClose, onClose, onSegment, receive, toSend}
 use Rattle.exchange.specs.Exchange.{Side, byProvider, byReceiver, Passing, ownHeaders}
 use Rattle.exchange.specs.Transfer.{Sound, senderOf, DamagedThenIntact, Transfer, Transferred, providerFrames, receiverFrames, exchanged}
@@ -80,5 +81,5 @@ script-transferred = two-party-transfer script
 
 -- its output, line by line
 pub script-output : map lineOf (exchanged script 13 .passed) ≡ scriptLines
-unfolding script when divCeil scqInRange afqInRange losInRange isMirror within sizesRight headerLen maxIoa maxCommonAddress elementRoom segmentLimit scCause isFileType segmentInRange calledSection oneOf fileAnswered sectionAnswered scAnswered ackAnswered namesAgree answersTo octetSum checksum usesFunction addressRight settled serves frameAgrees admitFrame onAsdu matched onAnswer addressed framed built sectionLength sectionCount sections sectionOctets segments fileAgrees onSc afterSection onAck isOurs onRequest provide storeAgrees written awaited started onFileReady onSectionReady onSectionClose onFileClose onClose onSegment receive toSend
+unfolding script when divCeil scqInRange afqInRange losInRange isMirror within sizesRight headerLen maxIoa maxCommonAddress elementRoom segmentLimit scCause isFileType segmentInRange calledSection oneOf fileAnswered sectionAnswered scAnswered ackAnswered namesAgree answersTo octetSum checksum usesFunction addressRight settled serves frameAgrees admitFrame onAsdu matched onAnswer addressed framed built sectionLength sectionCount sections sectionOctets segments fileAgrees onSc afterSection onAck isOurs onRequest provide storeAgrees written awaited started onFileReady onSectionReady sectionClosed onSectionClose fileClosed onFileClose onClose onSegment receive toSend
 script-output = refl

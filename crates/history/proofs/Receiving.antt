@@ -30,8 +30,12 @@ use Rattle.ft.specs.declared.Received.{Received}
 use Rattle.ft.specs.declared.Received.the-variants as D
 use Rattle.ft.specs.declared.Reaction.{Reaction}
 use Rattle.ft.specs.declared.Reaction.the-variants as A
-use Rattle.receive.specs.Record.{storeAgrees, frameOf, awaited, select, stepped, startedWith, started}
-use Rattle.receive.specs.Answers.{Outcome, closing, leaving, onFileReady, onSectionReady, onSectionClose, onFileClose, onClose, onSegment, onAnswered, onReceived, receiveAdmitted, receive, sends, toSend}
+use Rattle.acceptance.specs.Closed.{holds, sectionClosed, fileClosed}
+use Rattle.acceptance.specs.declared.SectionClosed.{SectionClosed}
+use Rattle.acceptance.specs.declared.SectionClosed.the-variants as T
+use Rattle.acceptance.specs.declared.FileClosed.{FileClosed}
+use Rattle.receive.specs.Record.{storeAgrees, heldBy, frameOf, awaited, select, stepped, startedWith, started}
+use Rattle.receive.specs.Answers.{Outcome, closing, leaving, onFileReady, onSectionReady, afterSectionClose, onSectionClose, afterFileClose, onFileClose, onClose, onSegment, onAnswered, onReceived, receiveAdmitted, receive, sends, toSend}
 use Rattle.receive.specs.declared.Sent.{Sent}
 use Rattle.receive.specs.declared.Sent.the-variants as S
 use Rattle.receive.specs.declared.Receiver.{Receiver}
@@ -151,24 +155,27 @@ module _ (r : Receiver) (store : List ℕ) (received : Received) where
   section-ready-right nos srq =
       either RightAt _ _ _ (quiet _ refl refl (sends-nothing _ refl)) (quiet _ refl refl (sends-request _ _ _ refl refl))
 
+  section-closed-right : (nos : Nos) (x : SectionClosed) → RightAt (afterSectionClose r nos x)
+  section-closed-right nos (T.Accepted h) = quiet _ refl refl (sends-acknowledgement _ _ _ refl refl refl)
+  section-closed-right nos (T.Dropped h) = quiet _ refl refl (sends-acknowledgement _ _ _ refl refl refl)
+
   section-close-right : (nos : Nos) (chs : Chs) → RightAt (onSectionClose r store nos chs)
   unfolding onSectionClose
-  section-close-right nos chs =
-      either RightAt _ _ _ (quiet _ refl refl (sends-acknowledgement _ _ _ refl refl refl)) (quiet _ refl refl (sends-acknowledgement _ _ _ refl refl refl))
+  section-close-right nos chs = section-closed-right nos (sectionClosed (heldBy r) store chs)
 
   module _ (agreed : storeAgrees r store ≡ true) where
     file-close-right : (f : Frame) (nos : Nos) (chs : Chs) → received ≡ D.Frame f → closesFile (r .ioa) (r .nof) f ≡ true → statedSum f ≡ chs .value
         → RightAt (onFileClose r store nos chs)
-    unfolding onFileClose
+    unfolding onFileClose fileClosed
     file-close-right f nos chs is close states =
-        if-so RightAt _ _ _
+        if-so (λ (x : FileClosed). RightAt (afterFileClose r nos chs x)) _ _ _
         (λ e.
-        quiet (stepped (closing r (S.Acknowledgement 1 nos)) (R.Complete (r .kept))) refl refl
+        quiet (stepped (closing r (holds (r .kept) 0) (S.Acknowledgement 1 nos)) (R.Complete (r .kept))) refl refl
         (record {
           frame = f;
           handed = is;
           close = close;
-          sum = rw states (eqb-true _ _ e);
+          sum = rw states (eqb-true _ _ (both _ _ e .1));
           named = refl;
           whole = omega (arith, agrees-held r store agreed);
           stored = refl;

@@ -21,6 +21,8 @@ use Rattle.checksum.specs.Checksum.{checksum}
 use Rattle.ft.specs.Admission.{onAnswer}
 use Rattle.ft.specs.declared.Received.the-variants as D
 use Rattle.ft.specs.declared.Reaction.the-variants as A
+use Rattle.acceptance.specs.Closed.{holds, sectionClosed, fileClosed}
+use Rattle.acceptance.specs.declared.Held.{Held}
 use Rattle.receive.specs.Record.{storeAgrees, holding, acknowledge, awaited, stepped}
 use Rattle.receive.specs.Answers.{asks, closing, leaving, onSectionClose, onFileClose, onSegment, onAnswered, receive, toSend}
 use Rattle.receive.specs.declared.Sent.the-variants.{Acknowledgement}
@@ -37,46 +39,41 @@ unfolding receive when
 answer-heard r store h unknown f beside agrees goes admitted = simp (agrees, goes, admitted)
 
 -- a whole file is acknowledged, and so is one whose sum differs
-pub completion-sends : (r : Receiver) (nos : Nos) (n : ℕ) → toSend (stepped (closing r (Acknowledgement 1 nos)) (Complete n)) ≡ T.Frame (acknowledge r 1 nos)
+pub completion-sends : (r : Receiver) (h : Held) (nos : Nos) (n : ℕ) → toSend (stepped (closing r h (Acknowledgement 1 nos)) (Complete n)) ≡ T.Frame (acknowledge r 1 nos)
 unfolding toSend awaited when
-completion-sends r nos n = refl
+completion-sends r h nos n = refl
 
-pub rejection-sends : (r : Receiver) (nos : Nos) (expected got : Chs)
-    → toSend (stepped (closing r (Acknowledgement 2 nos)) (FileChecksum expected got)) ≡ T.Frame (acknowledge r 2 nos)
+pub rejection-sends : (r : Receiver) (h : Held) (nos : Nos) (expected got : Chs)
+    → toSend (stepped (closing r h (Acknowledgement 2 nos)) (FileChecksum expected got)) ≡ T.Frame (acknowledge r 2 nos)
 unfolding toSend awaited when
-rejection-sends r nos expected got = refl
+rejection-sends r h nos expected got = refl
 
 module _ (r : Receiver) (acc sec rest : List ℕ) (kept : r .kept ≡ length acc) (staged : r .staged ≡ length sec) where
   abbrev store : List ℕ
   store = acc ++ (sec ++ rest)
 
-  -- a section's close: the sum of what is under way accepts it, any other drops it
-  pub section-close : (nos : Nos) (chs : Chs)
-      → onSectionClose r store nos chs
-      ≡ when (eqb (checksum sec) (chs .value)) (asks (holding r (length acc + length sec) 0) (Acknowledgement 3 nos))
-      (asks (holding r (length acc) 0) (Acknowledgement 4 nos))
-  unfolding onSectionClose
-  section-close nos chs = simp (kept, staged, staged-part acc sec rest)
+  -- the store holds them
+  all-held : leb (length acc + length sec) (length store) ≡ true
+  all-held =
+      let whole : length acc + length sec ≤ length store = simp length-append (omega arith) in
+      le-leb _ _ whole
 
+  -- a section's close: the sum of what is under way accepts it, any other drops it
   pub section-accepted : (nos : Nos) (chs : Chs) → checksum sec ≡ chs .value
       → onSectionClose r store nos chs ≡ asks (holding r (length acc + length sec) 0) (Acknowledgement 3 nos)
-  section-accepted nos chs e = section-close nos chs ∙ when-true _ _ _ (eq-eqb (checksum sec) (chs .value) e)
+  unfolding onSectionClose sectionClosed when
+  section-accepted nos chs e = simp (kept, staged, all-held, staged-part acc sec rest, eq-eqb (checksum sec) (chs .value) e)
 
   pub section-dropped : (nos : Nos) (chs : Chs) → checksum sec ≢ chs .value
       → onSectionClose r store nos chs ≡ asks (holding r (length acc) 0) (Acknowledgement 4 nos)
-  section-dropped nos chs e = section-close nos chs ∙ when-false _ _ _ (ne-eqb (checksum sec) (chs .value) e)
+  unfolding onSectionClose sectionClosed when
+  section-dropped nos chs e = simp (kept, staged, all-held, staged-part acc sec rest, ne-eqb (checksum sec) (chs .value) e)
 
   -- the file's close: the sum of what is accepted, whatever is under way
-  pub file-close : (nos : Nos) (chs : Chs)
-      → onFileClose r store nos chs
-      ≡ when (eqb (checksum acc) (chs .value)) (stepped (closing r (Acknowledgement 1 nos)) (Complete (length acc)))
-      (stepped (closing r (Acknowledgement 2 nos)) (FileChecksum (record { value = checksum acc }) chs))
-  unfolding onFileClose
-  file-close nos chs = simp (kept, kept-part acc sec rest)
-
   pub file-accepted : (nos : Nos) (chs : Chs) → checksum acc ≡ chs .value
-      → onFileClose r store nos chs ≡ stepped (closing r (Acknowledgement 1 nos)) (Complete (length acc))
-  file-accepted nos chs e = file-close nos chs ∙ when-true _ _ _ (eq-eqb (checksum acc) (chs .value) e)
+      → onFileClose r store nos chs ≡ stepped (closing r (holds (length acc) 0) (Acknowledgement 1 nos)) (Complete (length acc))
+  unfolding onFileClose fileClosed when
+  file-accepted nos chs e = simp (kept, staged, all-held, kept-part acc sec rest, eq-eqb (checksum acc) (chs .value) e)
 
   -- a segment is written behind what is under way where the rest can take it, and is refused exactly where it cannot
   room-test : (o : List ℕ) → leb (length acc + length sec + length o) (length store) ≡ leb (length o) (length rest)

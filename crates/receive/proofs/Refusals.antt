@@ -20,12 +20,17 @@ use Rattle.ft.specs.declared.Received.the-variants as D
 use Rattle.ft.specs.declared.Reaction.{Reaction}
 use Rattle.ft.specs.declared.Reaction.the-variants as A
 use Rattle.ft.specs.Admission.{onAnswer}
+use Rattle.acceptance.specs.Closed.{sectionClosed, fileClosed}
+use Rattle.acceptance.specs.declared.SectionClosed.{SectionClosed}
+use Rattle.acceptance.specs.declared.SectionClosed.the-variants as S
+use Rattle.acceptance.specs.declared.FileClosed.{FileClosed}
+use Rattle.acceptance.specs.declared.FileClosed.the-variants as W
 use Rattle.ft.specs.Building.{built}
 use Rattle.ft.specs.declared.AsduResult.{AsduResult}
 use Rattle.ft.specs.declared.AsduResult.the-variants as B
 use Rattle.receive.specs.declared.ReceiverAnswer.{ReceiverAnswer}
-use Rattle.receive.specs.Record.{select, awaited, stepped, startedWith, started}
-use Rattle.receive.specs.Answers.{Outcome, leaving, onFileReady, onSectionReady, onSectionClose, onFileClose, onClose, onSegment, onAnswered, onReceived, receiveAdmitted, receive, isRefusal}
+use Rattle.receive.specs.Record.{heldBy, select, awaited, stepped, startedWith, started}
+use Rattle.receive.specs.Answers.{Outcome, leaving, onFileReady, onSectionReady, afterSectionClose, onSectionClose, afterFileClose, onFileClose, onClose, onSegment, onAnswered, onReceived, receiveAdmitted, receive, isRefusal}
 use Rattle.receive.specs.declared.Receiver.{Receiver}
 use Rattle.receive.specs.declared.ReceiverStep.{ReceiverStep}
 
@@ -68,13 +73,21 @@ module _ (r : Receiver) (store : List ℕ) where
   unfolding onSectionReady
   section-ready-keeps nos srq = either _ _ _ (other _ refl) (other _ refl)
 
+  section-closed-keeps : (nos : Nos) (x : SectionClosed) → Keeps (afterSectionClose r nos x)
+  section-closed-keeps nos (S.Accepted h) = other _ refl
+  section-closed-keeps nos (S.Dropped h) = other _ refl
+
   section-close-keeps : (nos : Nos) (chs : Chs) → Keeps (onSectionClose r store nos chs)
   unfolding onSectionClose
-  section-close-keeps nos chs = either _ _ _ (other _ refl) (other _ refl)
+  section-close-keeps nos chs = section-closed-keeps nos (sectionClosed (heldBy r) store chs)
+
+  file-closed-keeps : (nos : Nos) (chs : Chs) (x : FileClosed) → Keeps (afterFileClose r nos chs x)
+  file-closed-keeps nos chs (W.Whole h) = other _ refl
+  file-closed-keeps nos chs (W.Differs expected h) = other _ refl
 
   file-close-keeps : (nos : Nos) (chs : Chs) → Keeps (onFileClose r store nos chs)
   unfolding onFileClose
-  file-close-keeps nos chs = either _ _ _ (other _ refl) (other _ refl)
+  file-close-keeps nos chs = file-closed-keeps nos chs (fileClosed (heldBy r) store chs)
 
   close-keeps : (nos : Nos) (lsq : Lsq) (chs : Chs) → Keeps (onClose r store nos lsq chs)
   unfolding onClose

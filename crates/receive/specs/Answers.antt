@@ -16,13 +16,18 @@ use Rattle.asdu.specs.declared.UnknownField.{UnknownField}
 use Rattle.asdu.specs.declared.FtError.the-variants as E
 use Rattle.frame.specs.declared.Frame.{Frame}
 use Rattle.frame.specs.declared.Frame.the-variants as F
-use Rattle.checksum.specs.Checksum.{checksum}
+use Rattle.acceptance.specs.Closed.{sectionClosed, fileClosed}
+use Rattle.acceptance.specs.declared.Held.{Held}
+use Rattle.acceptance.specs.declared.SectionClosed.{SectionClosed}
+use Rattle.acceptance.specs.declared.SectionClosed.the-variants.{Accepted, Dropped}
+use Rattle.acceptance.specs.declared.FileClosed.{FileClosed}
+use Rattle.acceptance.specs.declared.FileClosed.the-variants.{Whole, Differs}
 use Rattle.ft.specs.Admission.{onAnswer}
 use Rattle.ft.specs.declared.Received.{Received}
 use Rattle.ft.specs.declared.Received.the-variants as D
 use Rattle.ft.specs.declared.Reaction.{Reaction}
 use Rattle.ft.specs.declared.Reaction.the-variants as A
-use Rattle.receive.specs.Record.{storeAgrees, awaiting, holding, stating, ended, keptOctets, stagedOctets, awaited, stepped}
+use Rattle.receive.specs.Record.{storeAgrees, awaiting, holding, stating, ended, heldBy, awaited, stepped}
 use Rattle.store.specs.Store.{written}
 use Rattle.receive.specs.declared.Sent.{Sent}
 use Rattle.receive.specs.declared.Sent.the-variants.{Request, Acknowledgement}
@@ -49,22 +54,25 @@ unfoldable pub onSectionReady : Receiver → Nos → Srq → ReceiverStep
 onSectionReady r nos srq =
     when (srq .«not_ready») (stepped (ended r) (SectionNotReady nos srq)) (asks (holding r (r .kept) 0) (Request 6 nos))
 
--- a section's close: an equal sum accepts the section, another drops it
+-- a section's close: one that is accepted is acknowledged positively, one that is dropped negatively
+abbrev pub afterSectionClose : Receiver → Nos → SectionClosed → ReceiverStep
+afterSectionClose r nos (Accepted h) = asks (holding r (h .kept) (h .staged)) (Acknowledgement 3 nos)
+afterSectionClose r nos (Dropped h) = asks (holding r (h .kept) (h .staged)) (Acknowledgement 4 nos)
+
 unfoldable pub onSectionClose : Receiver → List ℕ → Nos → Chs → ReceiverStep
-onSectionClose r store nos chs =
-    when (eqb (checksum (stagedOctets r store)) (chs .value)) (asks (holding r (r .kept + r .staged) 0) (Acknowledgement 3 nos))
-    (asks (holding r (r .kept) 0) (Acknowledgement 4 nos))
+onSectionClose r store nos chs = afterSectionClose r nos (sectionClosed (heldBy r) store chs)
 
--- the transfer is over: a section under way is dropped, and the accepted count stays
-abbrev pub closing : Receiver → Sent → Receiver
-closing r ack = ended (awaiting (holding r (r .kept) 0) ack)
+-- the transfer is over, with this held and acknowledged
+abbrev pub closing : Receiver → Held → Sent → Receiver
+closing r h ack = ended (awaiting (holding r (h .kept) (h .staged)) ack)
 
--- the file's close: the sum of the accepted octets only
+-- the file's close: a whole file is acknowledged positively, one whose sum differs negatively
+abbrev pub afterFileClose : Receiver → Nos → Chs → FileClosed → ReceiverStep
+afterFileClose r nos chs (Whole h) = stepped (closing r h (Acknowledgement 1 nos)) (Complete (h .kept))
+afterFileClose r nos chs (Differs expected h) = stepped (closing r h (Acknowledgement 2 nos)) (FileChecksum expected chs)
+
 unfoldable pub onFileClose : Receiver → List ℕ → Nos → Chs → ReceiverStep
-onFileClose r store nos chs =
-    when (eqb (checksum (keptOctets r store)) (chs .value))
-    (stepped (closing r (Acknowledgement 1 nos)) (Complete (r .kept)))
-    (stepped (closing r (Acknowledgement 2 nos)) (FileChecksum (record { value = checksum (keptOctets r store) }) chs))
+onFileClose r store nos chs = afterFileClose r nos chs (fileClosed (heldBy r) store chs)
 
 -- by LSQ: 3 and 4 close a section, 1 and 2 the file; any other ends the transfer
 unfoldable pub onClose : Receiver → List ℕ → Nos → Lsq → Chs → ReceiverStep

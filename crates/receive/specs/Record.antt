@@ -3,12 +3,14 @@ use Prim.Native.Nat.{ℕ, _+_, min}
 use mathlib.Core.Bool.{Bool, true, false}
 use mathlib.Core.List.{List, [], _++_}
 use lib.Dec.{leb}
-use lib.ListN.{length, take, drop}
+use lib.ListN.{length}
 use Rattle.laws.specs.When.{unless, _and_}
 use Rattle.asdu.specs.Sizes.{sizesRight, maxIoa}
 use Rattle.asdu.specs.declared.Nof.{Nof}
 use Rattle.asdu.specs.declared.Nos.{Nos}
 use Rattle.asdu.specs.declared.FtError.the-variants as E
+use Rattle.acceptance.specs.Closed.{holds, accepted}
+use Rattle.acceptance.specs.declared.Held.{Held}
 use Rattle.frame.specs.declared.Frame.{Frame}
 use Rattle.frame.specs.declared.Frame.the-variants as F
 use Rattle.ft.specs.Procedure.{settled, addressed}
@@ -68,12 +70,13 @@ stating r n = withState r (r .sent) (Known n) (r .kept) (r .staged) (r .done)
 abbrev pub ended : Receiver → Receiver
 ended r = withState r (r .sent) (r .length) (r .kept) (r .staged) true
 
--- the octets accepted, and those of the section under way
-abbrev pub keptOctets : Receiver → List ℕ → List ℕ
-keptOctets r store = take (r .kept) store
+-- what it holds of the store
+abbrev pub heldBy : Receiver → Held
+heldBy r = holds (r .kept) (r .staged)
 
-abbrev pub stagedOctets : Receiver → List ℕ → List ℕ
-stagedOctets r store = take (r .staged) (drop (r .kept) store)
+-- the octets accepted
+abbrev pub keptOctets : Receiver → List ℕ → List ℕ
+keptOctets r store = accepted (heldBy r) store
 
 -- how many octets have arrived so far; it stays at the largest number, as in the Rust
 unfoldable pub receivedOctets : Receiver → ℕ

@@ -3,6 +3,9 @@ use crate::Receiver;
 use crate::ReceiverAnswer;
 use crate::ReceiverStep;
 use crate::Sent;
+use acceptance::FileClosed;
+use acceptance::Held;
+use acceptance::SectionClosed;
 use asdu::Afq;
 use asdu::Cause;
 use asdu::Chs;
@@ -19,15 +22,11 @@ use frame::Frame;
 use ft::Reaction;
 use ft::Received;
 ghost use mathlib.Core.Path.{_≡_};
-ghost use mathlib.Core.List.{List};
-ghost use Prim.Native.Nat.{ℕ, _+_, _-_, _≤_, _<_, _^_};
 ghost use lib.Dec.{eqb};
-ghost use lib.ListN.{length, take, drop};
 ghost use Rattle.laws.specs.When.{_or_};
-ghost use Rattle.checksum.specs.Checksum.{checksum};
 ghost use Rattle.ft.specs.Admission.{onAnswer};
-ghost use Rattle.receive.specs.Record.{keptOctets, stagedOctets, awaited, stepped};
-ghost use Rattle.receive.specs.Answers.{onFileReady, onSectionReady, onSectionClose, closing, onFileClose, onClose, onSegment, receive};
+ghost use Rattle.receive.specs.Record.{awaited, stepped};
+ghost use Rattle.receive.specs.Answers.{onFileReady, onSectionReady, afterSectionClose, closing, afterFileClose, onClose, onSegment, receive};
 ghost use Rattle.receive.specs.Told.{toldByFrame, toldBy, toldOf, onTold};
 
 // What a received frame tells a Receiver: no more than its step goes by, so that the step holds neither
@@ -103,14 +102,6 @@ fn closes_file(lsq: Lsq) -> bool
     lsq.value == Lsq::FILE_WITH_DEACTIVATION
 }
 
-// The sum of the store's octets between two places.
-fn sum_between(store: &[u8], from: usize, to: usize) -> Chs
-    requires { ⌜ (from ≤ to) × (to ≤ length (now store)) ⌝ }
-    ensures { λ r. ⌜ r .value ≡ checksum (take (to - from) (drop from (now (store .entry)))) ⌝ }
-{
-    checksum::checksum(&store[from..to])
-}
-
 impl Receiver {
     // The file is ready and is called, or it is not.
     fn on_file_ready(self, lof: Lof, frq: Frq) -> ReceiverStep
@@ -141,34 +132,33 @@ impl Receiver {
         })
     }
 
-    // A section's close: where the sum of the section under way is the stated one it is accepted,
-    // else it is dropped and asked for again.
-    fn close_section(self, sum: Chs, nos: Nos, chs: Chs) -> ReceiverStep
-        requires { ⌜ self .kept + self .staged < 2 ^ 64 ⌝ }
-        ensures { λ r. ⌜ ((store : List ℕ) → sum .value ≡ checksum (stagedOctets self store) → r ≡ onSectionClose self store nos chs) ⌝ }
+    // After a section's close: accepted, it is acknowledged positively; dropped, it is asked for again.
+    fn after_section_close(self, closed: SectionClosed, nos: Nos) -> ReceiverStep
+        ensures { λ r. ⌜ r ≡ afterSectionClose self nos closed ⌝ }
     {
-        let mut next = self;
-        next.staged = 0;
-        if sum.value == chs.value {
-            next.kept = self.kept + self.staged;
-            return next.asks(Sent::Acknowledgement {
-                action: Afq::SECTION_POSITIVE,
-                nos,
-            });
+        match closed {
+            SectionClosed::Accepted(held) => {
+                let next = self.holding(held);
+                return next.asks(Sent::Acknowledgement {
+                    action: Afq::SECTION_POSITIVE,
+                    nos,
+                });
+            }
+            SectionClosed::Dropped(held) => {
+                let next = self.holding(held);
+                return next.asks(Sent::Acknowledgement {
+                    action: Afq::SECTION_NEGATIVE,
+                    nos,
+                });
+            }
         }
-        next.asks(Sent::Acknowledgement {
-            action: Afq::SECTION_NEGATIVE,
-            nos,
-        })
     }
 
-    // The file's close: a section under way is dropped, the acknowledgement goes out and the transfer
-    // is over.
-    fn closes(self, ack: Sent, answer: ReceiverAnswer) -> ReceiverStep
-        ensures { λ r. ⌜ r ≡ stepped (closing self ack) answer ⌝ }
+    // The acknowledgement of the file goes out, and the transfer is over.
+    fn closes(self, held: Held, ack: Sent, answer: ReceiverAnswer) -> ReceiverStep
+        ensures { λ r. ⌜ r ≡ stepped (closing self held ack) answer ⌝ }
     {
-        let mut last = self;
-        last.staged = 0;
+        let mut last = self.holding(held);
         last.done = true;
         ReceiverStep {
             receiver: last.awaiting(ack),
@@ -176,51 +166,52 @@ impl Receiver {
         }
     }
 
-    // The file's close: complete where the sum of the accepted octets is the stated one.
-    fn close_file(self, sum: Chs, nos: Nos, chs: Chs) -> ReceiverStep
-        ensures { λ r. ⌜ ((store : List ℕ) → sum .value ≡ checksum (keptOctets self store) → r ≡ onFileClose self store nos chs) ⌝ }
+    // After the file's close: complete where it is whole.
+    fn after_file_close(self, closed: FileClosed, nos: Nos, chs: Chs) -> ReceiverStep
+        ensures { λ r. ⌜ r ≡ afterFileClose self nos chs closed ⌝ }
     {
-        if sum.value == chs.value {
-            let ack = Sent::Acknowledgement {
-                action: Afq::FILE_POSITIVE,
-                nos,
-            };
-            let length = self.kept;
-            return self.closes(ack, ReceiverAnswer::Complete { length });
+        match closed {
+            FileClosed::Whole(held) => {
+                let ack = Sent::Acknowledgement {
+                    action: Afq::FILE_POSITIVE,
+                    nos,
+                };
+                let length = held.kept;
+                return self.closes(held, ack, ReceiverAnswer::Complete { length });
+            }
+            FileClosed::Differs { expected, held } => {
+                let ack = Sent::Acknowledgement {
+                    action: Afq::FILE_NEGATIVE,
+                    nos,
+                };
+                let answer = ReceiverAnswer::FileChecksum { expected, got: chs };
+                return self.closes(held, ack, answer);
+            }
         }
-        let ack = Sent::Acknowledgement {
-            action: Afq::FILE_NEGATIVE,
-            nos,
-        };
-        self.closes(
-            ack,
-            ReceiverAnswer::FileChecksum {
-                expected: sum,
-                got: chs,
-            },
-        )
     }
 
     // The last segment of a section or the last section of the file, by LSQ; one of another LSQ ends
     // the transfer.
     fn on_close(self, store: &[u8], nos: Nos, lsq: Lsq, chs: Chs) -> ReceiverStep
-        requires { ⌜ self .kept + self .staged ≤ length (now store) ⌝ }
         ensures { λ r. ⌜ r ≡ onClose self (now (store .entry)) nos lsq chs ⌝ }
     {
-        let kept = self.kept;
-        let held = kept + self.staged;
+        let held = Held {
+            kept: self.kept,
+            staged: self.staged,
+        };
         if closes_section(lsq) {
-            return self.close_section(sum_between(store, kept, held), nos, chs);
+            let closed = acceptance::close_section(held, store, chs);
+            return self.after_section_close(closed, nos);
         }
         if closes_file(lsq) {
-            return self.close_file(sum_between(store, 0, kept), nos, chs);
+            let closed = acceptance::close_file(held, store, chs);
+            return self.after_file_close(closed, nos, chs);
         }
         self.ends(ReceiverAnswer::UnknownLsq(lsq))
     }
 
     // A segment is written after what is held: 24 where the store cannot take it.
     fn on_segment(self, store: &mut [u8], payload: &[u8]) -> ReceiverStep
-        requires { ⌜ self .kept + self .staged ≤ length (now store) ⌝ }
         ensures { λ r. ⌜ (r ≡ onSegment self (now (store .entry)) (now (payload .entry)) .step) × (now (store .exit) ≡ onSegment self (now (store .entry)) (now (payload .entry)) .store) ⌝ }
     {
         if store::write_at(store, self.kept, self.staged, payload) {
@@ -243,9 +234,8 @@ impl Receiver {
         )
     }
 
-    // A step by what the frame tells, of a record that is not done and agrees with its store.
+    // A step by what the frame tells.
     fn on_told(self, store: &mut [u8], payload: &[u8], told: Told) -> ReceiverStep
-        requires { ⌜ self .kept + self .staged ≤ length (now store) ⌝ }
         ensures { λ r. ⌜ (r ≡ onTold self (now (store .entry)) (now (payload .entry)) told .step) × (now (store .exit) ≡ onTold self (now (store .entry)) (now (payload .entry)) told .store) ⌝ }
     {
         match told {

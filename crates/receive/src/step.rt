@@ -6,9 +6,10 @@ use crate::ReceiverAnswer;
 use crate::ReceiverStep;
 use crate::Sent;
 use crate::ToSend;
+use acceptance::Held;
 use asdu::FtError;
 ghost use mathlib.Core.Path.{_≡_};
-ghost use Rattle.receive.specs.Record.{awaiting, stating, ended, stepped};
+ghost use Rattle.receive.specs.Record.{awaiting, holding, stating, ended, stepped};
 ghost use Rattle.receive.specs.Answers.{asks, sends, toSend};
 ghost use Rattle.receive.specs.declared.ReceiverAnswer.the-variants.{Running, Err};
 
@@ -43,6 +44,16 @@ impl Receiver {
             receiver: next,
             answer,
         }
+    }
+
+    // The record with so many octets accepted and under way.
+    pub(crate) fn holding(self, held: Held) -> Receiver
+        ensures { λ r. ⌜ r ≡ holding self (held .kept) (held .staged) ⌝ }
+    {
+        let mut next = self;
+        next.kept = held.kept;
+        next.staged = held.staged;
+        next
     }
 
     // The record with the answer to this awaited.

@@ -40,10 +40,13 @@ use Rattle.provide.specs.Record.{fileAgrees, ended, counted}
 use Rattle.provide.specs.Requests.{onSc, onAck, onOurs, onRequest, onRequested, provideAdmitted, provide}
 use Rattle.provide.specs.declared.Provider.{Provider}
 use Rattle.provide.specs.declared.ProviderStep.{ProviderStep}
+use Rattle.acceptance.specs.Closed.{sectionClosed, fileClosed}
+use Rattle.acceptance.specs.declared.SectionClosed.{SectionClosed}
+use Rattle.acceptance.specs.declared.FileClosed.{FileClosed}
 use Rattle.receive.specs.Record.{storeAgrees, awaited, stepped}
 use Rattle.receive.proofs.Facts as R
 use Rattle.receive.proofs.Starting.{agrees, agrees-held}
-use Rattle.receive.specs.Answers.{Outcome, leaving, onFileReady, onSectionReady, onSectionClose, onFileClose, onClose, onSegment, onAnswered, onReceived, receiveAdmitted, receive, sends}
+use Rattle.receive.specs.Answers.{Outcome, leaving, onFileReady, onSectionReady, afterSectionClose, onSectionClose, afterFileClose, onFileClose, onClose, onSegment, onAnswered, onReceived, receiveAdmitted, receive, sends}
 use Rattle.receive.specs.declared.Receiver.{Receiver}
 use Rattle.receive.specs.declared.ReceiverAnswer.{ReceiverAnswer}
 use Rattle.receive.specs.declared.ReceiverStep.{ReceiverStep}
@@ -162,10 +165,13 @@ module _ (r : Receiver) (store : List ℕ) (agreed : storeAgrees r store ≡ tru
   section-ready-stays nos srq = either StaysAt _ _ _ (kept-at _ refl refl (omega arith)) (kept-at _ refl refl (omega arith))
 
   close-stays : (nos : Nos) (lsq : Lsq) (chs : Chs) → StaysAt (onClose r store nos lsq chs)
-  unfolding onClose onSectionClose onFileClose
+  unfolding onClose onSectionClose sectionClosed onFileClose fileClosed
   close-stays nos lsq chs =
-      either StaysAt _ _ _ (either StaysAt _ _ _ (kept-at _ refl refl (omega arith)) (kept-at _ refl refl (omega arith)))
-      (either StaysAt _ _ _ (either StaysAt _ _ _ (kept-at _ refl refl (omega arith)) (kept-at _ refl refl (omega arith))) (kept-at _ refl refl (omega arith)))
+      either StaysAt _ _ _
+      (either (λ (x : SectionClosed). StaysAt (afterSectionClose r nos x)) _ _ _ (kept-at _ refl refl (omega arith)) (kept-at _ refl refl (omega arith)))
+      (either StaysAt _ _ _
+      (either (λ (x : FileClosed). StaysAt (afterFileClose r nos chs x)) _ _ _ (kept-at _ refl refl (omega arith)) (kept-at _ refl refl (omega arith)))
+      (kept-at _ refl refl (omega arith)))
 
   answered-stays : (payload : List ℕ) (f : Frame) → Stays r (onAnswered r store payload f)
   answered-stays payload (F.FileReady ioa nof lof frq) = file-ready-stays lof frq .at

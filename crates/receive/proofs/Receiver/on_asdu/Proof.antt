@@ -1,15 +1,9 @@
 use Rattle.laws.proofs.Decide.{whens, yes, nay}
 use borrow.Author.Needs.{needs}
 use Rattle.receive.specs.Answers.{receive}
-use Rattle.receive.proofs.Starting.{agrees-held}
 use Rattle.receive.proofs.Telling.{told-is}
 use Rattle.receive.proofs.Receiver.on_asdu.Statement.{statement}
 use Rattle.receive.proofs.Receiver.on_asdu.Tie as tie
-
-on-told-requires : tie.Need-on-told-requires
-on-told-requires c κs =
-    let i = c .before .before .before in
-    agrees-held _ _ (yes (i .before .agrees .ensures) (i .if1 .taken))
 
 returns : tie.Need-returns
 unfolding receive
@@ -45,7 +39,7 @@ on-asdu-spec =
     (λ c. search needs)
     returns
     (λ c κs. search needs)
-    on-told-requires
+    (λ c κs. search needs)
     (λ c. search needs)
     returns-2
     (λ c κs. search needs)

@@ -1,0 +1,44 @@
+use Prim.Native.Nat.{ℕ, _+_, _≤_}
+use mathlib.Core.Path.{_≡_, sym, _∙_}
+use mathlib.Core.Bool.{Bool, true}
+use mathlib.Core.List.{List}
+use lib.Dec.{leb}
+use lib.ListN.{length}
+use native.Mathlib.Nat.{add-sub-cancel-left}
+use Rattle.laws.proofs.Decide.{whens, yes, nay}
+use borrow.Author.Needs.{needs}
+use borrow.Author.Tests.{eq-eqb, ne-eqb, leb-true}
+use Rattle.acceptance.specs.Closed.{sectionClosed}
+use Rattle.acceptance.proofs.close_section.Statement.{statement}
+use Rattle.acceptance.proofs.close_section.Tie as tie
+
+-- what the store's holding says, of the numbers
+held : (kept staged : ℕ) (store : List ℕ) (r : Bool) → r ≡ leb (kept + staged) (length store) → r ≡ true → kept + staged ≤ length store
+held kept staged store r e t = leb-true (kept + staged) (length store) (yes e t)
+
+pub close-section-spec : {M : Type 1} → statement M
+unfolding sectionClosed
+close-section-spec =
+    tie.close
+    (tie.spec
+    (λ c κs. search needs)
+    (λ c. let a = c .before .before .before .args in let h = held (a .held .kept) (a .held .staged) (a .store .now) _ (c .before .is-held .ensures) (c .if1 .taken) in search needs)
+    (λ c κs. let a = c .before .before .before .args in let h = held (a .held .kept) (a .held .staged) (a .store .now) _ (c .before .is-held .ensures) (c .if1 .taken) in search needs)
+    (λ c.
+    let s = c .before .before .before in
+    let i = s .before in
+    simp (
+      whens,
+      yes (i .before .is-held .ensures) (i .if1 .taken),
+      eq-eqb _ _ (sym (simp add-sub-cancel-left at (s .sum-between .ensures)) ∙ c .if2 .taken),
+    ))
+    (λ c.
+    let s = c .before .before .before in
+    let i = s .before in
+    simp (
+      whens,
+      yes (i .before .is-held .ensures) (i .if1 .taken),
+      ← (simp add-sub-cancel-left at (s .sum-between .ensures)),
+      ne-eqb _ _ (c .if2 .left),
+    ))
+    (λ c. simp (whens, nay (c .before .is-held .ensures) (c .if1 .left))))
