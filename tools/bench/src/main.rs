@@ -1,6 +1,6 @@
 //! Times whole transfers in one process (docs/SPEED.md): the library's run, the published Rust's Provider and
 //! Receiver, and a floor in C; and the octet sum beside C's. The three are run in turn, again and again, and the
-//! medians are printed.
+//! medians are printed, with the library's fastest round beside its median.
 //!
 //!     bench [ROUNDS]     how often each is run; fewer for the longest files
 
@@ -188,11 +188,14 @@ fn transfers(length: usize, damaged: bool, rounds: usize) {
         taken[1].push(repeat(&mut || done(rust(&case))));
         taken[2].push(repeat(&mut || done(floor(&case, &mut store))));
     }
+    // What a machine with a loaded neighbour could do without it.
+    let fastest = taken[0].iter().copied().fold(f64::INFINITY, f64::min);
     let [mine, theirs, least] = taken.map(|mut times| median(&mut times));
     let a_frame = mine / frames as f64;
     println!(
-        "| {length} | {} | {frames} | {a_frame:.1} | {:.1} | {:.2} | {:.1} | {:.2} |",
+        "| {length} | {} | {frames} | {a_frame:.1} | {:.1} | {:.1} | {:.2} | {:.1} | {:.2} |",
         if damaged { "each section once" } else { "none" },
+        fastest / frames as f64,
         1e3 / a_frame,
         mine / theirs,
         least / frames as f64,
@@ -224,9 +227,9 @@ fn sums(length: usize, rounds: usize) {
 fn main() {
     let rounds: usize = std::env::args().nth(1).and_then(|word| word.parse().ok()).unwrap_or(21);
     println!(
-        "| file, octets | damage | frames | ns a frame | million frames a second | to the Rust | floor, ns a frame | to the floor |"
+        "| file, octets | damage | frames | ns a frame | the fastest round | million frames a second | to the Rust | floor, ns a frame | to the floor |"
     );
-    println!("|---|---|---|---|---|---|---|---|");
+    println!("|---|---|---|---|---|---|---|---|---|");
     for length in [9_000, 1_000_000, 16_777_215] {
         for damaged in [false, true] {
             transfers(length, damaged, rounds);
