@@ -18,6 +18,8 @@ use Rattle.asdu.specs.declared.Cause.{Cause}
 use Rattle.asdu.specs.declared.Header.{Header}
 use Rattle.asdu.specs.declared.UnknownField.the-variants as U
 use Rattle.asdu.proofs.Octets.{thirteen}
+use Rattle.stored.specs.Stored.{entriesIn, anyLast, hasLast, storedFrom, pageStored, roomFor}
+use Rattle.stored.proofs.StoredLaws.{written-none, written-twice, written-long, entry-long}
 use Rattle.frame.specs.Frames.{isFileType}
 use Rattle.frame.specs.Ranges.{valuesInRange}
 use Rattle.ft.specs.Directions.{otherRole}
@@ -31,12 +33,10 @@ use Rattle.pager.proofs.Entries.{page-full, page-ends}
 use Rattle.pager.proofs.Sent.{sent-back, sent-long, sent-first, sent-rest, entries-of-page}
 use Rattle.pager.proofs.Frames.{page-in-range}
 use Rattle.directory.specs.Record.{callAgrees}
-use Rattle.directory.specs.Stored.{entriesIn, anyLast, hasLast, storedFrom, pageStored}
 use Rattle.directory.specs.Collecting.{Outcome, stepped, holding, ended, leaving, onHeld, onPage, collect}
 use Rattle.directory.specs.Handed.{Sound, Directory, handOver, handed, sentStored, allHeld, DirectoryCollected}
 use Rattle.directory.specs.declared.DirectoryCall.{DirectoryCall}
 use Rattle.directory.specs.declared.DirectoryAnswer.the-variants.{Running, Complete}
-use Rattle.directory.proofs.StoredLaws.{written-none, written-twice, written-long, entry-long}
 
 -- ---- a page under a sound header is an answer
 
@@ -176,7 +176,7 @@ module _ (d : Directory) where
 
     page-taken : handOver d i (leaving (storeWith (i * 18)) (stepped (callWith (i * 18)) Running))
         ≡ leaving (storeWith (i * 18 + n)) (onHeld (callWith (i * 18)) (c .held + i * 18 + n) (pageOctets o i))
-    unfolding onPage
+    unfolding onPage roomFor
     page-taken =
         let counts = entries-of-page o (d .right) (d .octets) i h in
         let room = d .room in

@@ -1,4 +1,3 @@
-pub mod StoredLaws
 pub mod Agreement
 pub mod Starting
 pub mod Refusals

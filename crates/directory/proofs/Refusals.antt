@@ -6,12 +6,12 @@ use mathlib.Core.List.{List}
 use Rattle.laws.specs.When.{when}
 use Rattle.asdu.specs.declared.Header.{Header}
 use Rattle.asdu.specs.declared.UnknownField.{UnknownField}
+use Rattle.stored.specs.Stored.{entriesIn, hasLast}
 use Rattle.ft.specs.Admission.{onAsdu}
 use Rattle.ft.specs.declared.Received.{Received}
 use Rattle.ft.specs.declared.Reaction.{Reaction}
 use Rattle.ft.specs.declared.Reaction.the-variants as A
 use Rattle.directory.specs.Collecting.{Outcome, stepped, holding, ended, leaving, onHeld, onPage, onTaken, taken, collectAdmitted, collect, isRefusal}
-use Rattle.directory.specs.Stored.{entriesIn, hasLast}
 use Rattle.directory.specs.declared.Taken.{Taken}
 use Rattle.directory.specs.declared.Taken.the-variants as T
 use Rattle.directory.specs.declared.DirectoryCall.{DirectoryCall}

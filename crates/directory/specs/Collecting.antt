@@ -2,13 +2,13 @@
 use Prim.Native.Nat.{ℕ, _+_, _*_}
 use mathlib.Core.Bool.{Bool, true, false}
 use mathlib.Core.List.{List}
-use lib.Dec.{leb}
 use lib.ListN.{length}
 use Rattle.laws.specs.When.{when, unless}
 use Rattle.store.specs.Store.{written}
 use Rattle.asdu.specs.declared.Header.{Header}
 use Rattle.asdu.specs.declared.UnknownField.{UnknownField}
 use Rattle.asdu.specs.declared.FtError.the-variants as E
+use Rattle.stored.specs.Stored.{entriesIn, hasLast, pageStored, roomFor}
 use Rattle.frame.specs.declared.Frame.{Frame}
 use Rattle.frame.specs.declared.Frame.the-variants as F
 use Rattle.ft.specs.Admission.{onAsdu}
@@ -17,7 +17,6 @@ use Rattle.ft.specs.declared.Received.the-variants as D
 use Rattle.ft.specs.declared.Reaction.{Reaction}
 use Rattle.ft.specs.declared.Reaction.the-variants as A
 use Rattle.directory.specs.Record.{callAgrees}
-use Rattle.directory.specs.Stored.{entriesIn, hasLast, pageStored}
 use Rattle.directory.specs.declared.Taken.{Taken}
 use Rattle.directory.specs.declared.Taken.the-variants as T
 use Rattle.directory.specs.declared.DirectoryCall.{DirectoryCall}
@@ -71,7 +70,7 @@ onHeld c n o = when (hasLast o) (stepped (ended (holding c n)) (Complete n)) (st
 -- a page is written after the entries held: 25 exactly where the store cannot take all of it
 unfoldable pub onPage : DirectoryCall → List ℕ → ℕ → List ℕ → Outcome
 onPage c store ioa o =
-    unless (leb (17 * (c .held + entriesIn o)) (length store)) (leaving store (stepped c (Err E.DirectoryFull)))
+    unless (roomFor (c .held) (entriesIn o) (length store)) (leaving store (stepped c (Err E.DirectoryFull)))
     (leaving (written store (17 * c .held) (pageStored ioa o)) (onHeld c (c .held + entriesIn o) o))
 
 abbrev pub onTaken : DirectoryCall → List ℕ → List ℕ → Taken → Outcome

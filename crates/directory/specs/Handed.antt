@@ -10,6 +10,7 @@ use Rattle.asdu.specs.Entry.{entryOctets, entryAddress}
 use Rattle.asdu.specs.declared.AddressSizes.{AddressSizes}
 use Rattle.asdu.specs.declared.Header.{Header}
 use Rattle.asdu.specs.declared.UnknownField.the-variants as U
+use Rattle.stored.specs.Stored.{storedEntry}
 use Rattle.frame.specs.declared.Frame.{Frame}
 use Rattle.frame.specs.Frames.{typeOf, causeOf}
 use Rattle.ft.specs.Directions.{otherRole}
@@ -17,7 +18,6 @@ use Rattle.ft.specs.Procedure.{settled}
 use Rattle.ft.specs.Admission.{serves}
 use Rattle.ft.specs.declared.Received.the-variants as D
 use Rattle.pager.specs.Pages.{entriesOf, entriesRight, sentEntry, pageCount, pageAddress, pageOctets, pageFrame}
-use Rattle.directory.specs.Stored.{storedEntry}
 use Rattle.directory.specs.Collecting.{Outcome, stepped, holding, ended, leaving, collect}
 use Rattle.directory.specs.declared.DirectoryCall.{DirectoryCall}
 use Rattle.directory.specs.declared.DirectoryAnswer.the-variants.{Running, Complete}

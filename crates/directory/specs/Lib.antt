@@ -1,4 +1,3 @@
 pub mod Record
-pub mod Stored
 pub mod Collecting
 pub mod Handed

@@ -3,8 +3,6 @@ use crate::DirectoryAnswer;
 use crate::DirectoryCall;
 use crate::DirectoryStep;
 use crate::Taken;
-use crate::stored;
-use crate::stored::STORED;
 use asdu::DirectoryEntry;
 use asdu::FtError;
 use asdu::Header;
@@ -13,8 +11,6 @@ use frame::Frame;
 use ft::Reaction;
 use ft::Received;
 ghost use mathlib.Core.Path.{_≡_};
-ghost use Prim.Native.Nat.{_*_, _≤_};
-ghost use lib.ListN.{length};
 ghost use Rattle.directory.specs.Collecting.{frameTaken, taken, stepped, ended, onPage, onTaken, collectAdmitted, collect};
 ghost use Rattle.directory.specs.declared.DirectoryAnswer.the-variants.{Running, Err};
 
@@ -77,19 +73,16 @@ impl DirectoryCall {
     // A page's entries are written after those held: 25, and nothing of it, where the store cannot take
     // them all. The flag in any of them completes the call.
     fn on_page(self, store: &mut [u8], ioa: u32, entries: &[u8]) -> DirectoryStep
-        requires { ⌜ 17 * self .held ≤ length (now store) ⌝ }
         ensures { λ r. ⌜ (r ≡ onPage self (now (store .entry)) ioa (now (entries .entry)) .step) × (now (store .exit) ≡ onPage self (now (store .entry)) ioa (now (entries .entry)) .store) ⌝ }
     {
         let held = self.held;
-        let count = entries.len() / DirectoryEntry::LEN;
-        if store.len() / STORED - held < count {
+        if !stored::write_page(store, held, ioa, entries) {
             return self.refuses(FtError::DirectoryFull);
         }
-        stored::write_page(store, STORED * held, ioa, entries);
+        let all = held + entries.len() / DirectoryEntry::LEN;
         let mut next = self;
-        next.held = held + count;
+        next.held = all;
         if stored::has_last(entries) {
-            let all = held + count;
             return next.ends(DirectoryAnswer::Complete { entries: all });
         }
         next.runs()
@@ -97,7 +90,6 @@ impl DirectoryCall {
 
     // An answer of the other station: a page, or nothing to this call.
     fn on_taken(self, store: &mut [u8], beside: &[u8], what: Taken) -> DirectoryStep
-        requires { ⌜ 17 * self .held ≤ length (now store) ⌝ }
         ensures { λ r. ⌜ (r ≡ onTaken self (now (store .entry)) (now (beside .entry)) what .step) × (now (store .exit) ≡ onTaken self (now (store .entry)) (now (beside .entry)) what .store) ⌝ }
     {
         match what {
@@ -114,7 +106,6 @@ impl DirectoryCall {
         what: Taken,
         reaction: Reaction,
     ) -> DirectoryStep
-        requires { ⌜ 17 * self .held ≤ length (now store) ⌝ }
         ensures { λ r. ⌜ (r ≡ collectAdmitted self (now (store .entry)) (now (beside .entry)) what reaction .step) × (now (store .exit) ≡ collectAdmitted self (now (store .entry)) (now (beside .entry)) what reaction .store) ⌝ }
     {
         match reaction {

@@ -1,10 +1,8 @@
 // The call of a directory and its answer (IEC 60870-5-101, 7.4.11, and document 01, The directory). A
 // directory may span several F_DR_TA_1 frames and ends with the entry whose SOF marks the last file
-// (7.2.6.38). The store is lent to each call: 17 octets an entry, its object address in 4, the lowest
-// first, then its 13 packed octets.
+// (7.2.6.38). The store is lent to each call; `stored` has how the entries stand in it.
 mod collect; // what a received frame does
 mod record; // the record: its making, when it and a store agree, its start
-mod stored; // a page's entries, read and written
 
 use asdu::Cause;
 use asdu::FtError;

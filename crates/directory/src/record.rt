@@ -3,7 +3,6 @@ use crate::CallResult;
 use crate::DirectoryCall;
 use crate::DirectoryStart;
 use crate::StartAnswer;
-use crate::stored::STORED;
 use asdu::FtError;
 use asdu::Nof;
 use asdu::Nos;
@@ -12,6 +11,7 @@ use frame::Frame;
 use ft::AsduResult;
 use ft::FileTransferProcedure;
 use ft::procedure;
+use stored::STORED;
 ghost use mathlib.Core.Path.{_≡_};
 ghost use Rattle.directory.specs.Record.{callMade, callAgrees, callFrame, startedWith, started};
 

@@ -2,7 +2,7 @@ use borrow.Author.Needs.{needs}
 use lib.ListN.{length}
 use Rattle.laws.proofs.Decide.{whens, yes, nay}
 use Rattle.directory.specs.Record.{callAgrees}
-use Rattle.directory.proofs.StoredLaws.{seventeens}
+use Rattle.directory.proofs.Agreement.{seventeens}
 use Rattle.directory.proofs.DirectoryCall.agrees.Statement.{statement}
 use Rattle.directory.proofs.DirectoryCall.agrees.Tie as tie
 

@@ -4,7 +4,6 @@ use mathlib.Core.Bool.{true, false}
 use borrow.Author.Needs.{needs}
 use borrow.Author.Tests.{not-true, not-false}
 use Rattle.directory.specs.Collecting.{collect}
-use Rattle.directory.proofs.Agreement.{agrees-held}
 use Rattle.directory.proofs.DirectoryCall.on_asdu.Statement.{statement}
 use Rattle.directory.proofs.DirectoryCall.on_asdu.Tie as tie
 
@@ -35,11 +34,6 @@ returns-3 c =
     let flag = e .before .before .before .before .before .before .args .self .started in
     let sent : flag ≡ true = not-false flag (i .if2 .left) in
     (simp (whens, held, sent, d .if3 .taken) (c .runs2 .ensures), simp (whens, held, sent, d .if3 .taken))
-
-on-admitted-requires : tie.Need-on-admitted-requires
-on-admitted-requires c κs =
-    let e = c .before .before .before .before .before .before in
-    agrees-held _ _ (yes-by-not (e .before .agrees .ensures) (e .if1 .left))
 
 returns-4 : tie.Need-returns-4
 unfolding collect
@@ -73,6 +67,6 @@ on-asdu-spec =
     returns-3
     (λ c κs. search needs)
     (λ c κs. search needs)
-    on-admitted-requires
+    (λ c κs. search needs)
     (λ c. search needs)
     returns-4)

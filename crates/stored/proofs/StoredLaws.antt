@@ -1,29 +1,22 @@
 -- Entries written into a store one after the other, and the last-file flag read at a place.
-use Prim.Native.Nat.{ℕ, zero, suc, _+_, _-_, _*_, _/_, _≤_, _<_}
-use mathlib.Core.Path.{_≡_, refl, sym, ap, subst, _∙_}
+use Prim.Native.Nat.{ℕ, zero, suc, _+_, _-_, _*_, _≤_, _<_}
+use mathlib.Core.Path.{_≡_, refl, ap, subst, _∙_}
+use mathlib.Core.Bool.{true}
 use mathlib.Core.List.{List, [], _++_, append-assoc, append-nil}
 use native.Mathlib.Nat.{add-assoc, add-zero, zero-add, suc-add}
 use native.Mathlib.Omega.{arith}
-use native.Mathlib.Decide.{decLe}
-use lib.Dec.{leb}
 use lib.ListN.{length, take, drop, getD, length-append, length-take, length-drop, take-append-drop}
 use lib.Seq.{take-append-seam, take-append-add, drop-append-add, length-take-le, drop-drop, getD-take, getD-drop}
-use borrow.Author.Tests.{le-leb, lt-leb}
+use borrow.Author.Tests.{leb-true}
 use Rattle.laws.specs.When.{_or_}
 use Rattle.store.specs.Store.{written}
 use Rattle.asdu.specs.Entry.{bitOf, sofOf, entryOf, entryAddress}
-use Rattle.directory.specs.Stored.{anyLast, addressOctets, storedEntry, storedFrom}
+use Rattle.stored.specs.Stored.{anyLast, addressOctets, storedEntry, storedFrom, roomFor}
 
--- so many entries of 17 octets are within a length, told by whole entries
-pub seventeens : (n len : ℕ) → leb n (len / 17) ≡ leb (17 * n) len
-seventeens n len = by-test (decLe n (len / 17))
-  where
-    by-test : Dec (n ≤ len / 17) → leb n (len / 17) ≡ leb (17 * n) len
-    by-test (yes h) = let g : 17 * n ≤ len = omega arith in le-leb _ _ h ∙ sym (le-leb _ _ g)
-    by-test (no h) =
-        let f : len / 17 < n = omega arith in
-        let g : len < 17 * n = omega arith in
-        lt-leb _ _ f ∙ sym (lt-leb _ _ g)
+-- where there is room, the octets of all entries are within the store
+pub room-is : (held more len : ℕ) → roomFor held more len ≡ true → 17 * (held + more) ≤ len
+unfolding roomFor
+room-is held more len e = leb-true _ _ e
 
 -- ---- writing twice
 

@@ -5,10 +5,10 @@ use native.Mathlib.Omega.{arith}
 use borrow.Author.Needs.{needs}
 use lib.ListN.{length, length-take, length-drop}
 use Rattle.store.specs.Store.{written}
-use Rattle.directory.specs.Stored.{entriesIn, storedFrom, pageStored}
-use Rattle.directory.proofs.StoredLaws.{written-none, written-long, stored-long, page-next}
-use Rattle.directory.proofs.stored.write_page.Statement.{statement}
-use Rattle.directory.proofs.stored.write_page.Tie as tie
+use Rattle.stored.specs.Stored.{entriesIn, storedFrom, pageStored}
+use Rattle.stored.proofs.StoredLaws.{written-none, written-long, stored-long, page-next}
+use Rattle.stored.proofs.write_entries.Statement.{statement}
+use Rattle.stored.proofs.write_entries.Tie as tie
 
 abbrev Inv-loop : tie.InvT-loop
 Inv-loop store₀ place ioa entries count i₀ store i =
@@ -37,8 +37,8 @@ returns c =
     let all : c .before .loop .i ≡ length (c .before .before .before .before .args .entries .now) / 13 = omega arith in
     rw (← all) (c .before .loop .inv .1)
 
-pub write-page-spec : {M : Type 1} → statement M
-write-page-spec =
+pub write-entries-spec : {M : Type 1} → statement M
+write-entries-spec =
     tie.close
     (tie.spec
     Inv-loop

@@ -1,9 +1,11 @@
--- The entries of a directory page, packed in 13 octets each, and how they stand in a store, in 17 (document 01, The directory).
+-- The entries of a directory page, packed in 13 octets each, and how they stand in a store, in 17; where a page is written, and where it is not (document 01, The directory and Refused because of the state, 25).
 use Prim.Native.Nat.{ℕ, zero, suc, _+_, _*_, _/_, _%_}
 use mathlib.Core.Bool.{Bool, false}
 use mathlib.Core.List.{List, [], _∷_, _++_}
+use lib.Dec.{leb}
 use lib.ListN.{length, take, drop, getD}
-use Rattle.laws.specs.When.{_or_}
+use Rattle.laws.specs.When.{when, _or_}
+use Rattle.store.specs.Store.{written}
 use Rattle.asdu.specs.Entry.{entryOf, unpacked, entryAddress}
 use Rattle.asdu.specs.declared.EntryResult.{EntryResult}
 
@@ -35,6 +37,17 @@ storedFrom (suc n) k base o = storedEntry (entryAddress base k) (take 13 o) ++ s
 -- a page's entries in the store, their addresses rising from the page's
 unfoldable pub pageStored : ℕ → List ℕ → List ℕ
 pageStored ioa o = storedFrom (entriesIn o) 0 ioa o
+
+-- ---- a page written into the store
+
+-- whether a store of this length holds so many entries and has room for so many more
+unfoldable pub roomFor : ℕ → ℕ → ℕ → Bool
+roomFor held more len = leb (17 * (held + more)) len
+
+-- the store afterwards: the whole page behind the entries held, or as it came in
+unfoldable pub withPage : List ℕ → ℕ → ℕ → List ℕ → List ℕ
+withPage store held ioa o =
+    when (roomFor held (entriesIn o) (length store)) (written store (17 * held) (pageStored ioa o)) store
 
 -- ---- for those who read the store
 

@@ -7,10 +7,10 @@ use borrow.Author.Tests.{eq-eqb, ne-eqb}
 use lib.ListN.{length, drop}
 use Rattle.laws.proofs.Decide.{whens}
 use Rattle.asdu.specs.Entry.{bitOf}
-use Rattle.directory.specs.Stored.{entriesIn, anyLast, hasLast}
-use Rattle.directory.proofs.StoredLaws.{last-next}
-use Rattle.directory.proofs.stored.has_last.Statement.{statement}
-use Rattle.directory.proofs.stored.has_last.Tie as tie
+use Rattle.stored.specs.Stored.{entriesIn, anyLast, hasLast}
+use Rattle.stored.proofs.StoredLaws.{last-next}
+use Rattle.stored.proofs.has_last.Statement.{statement}
+use Rattle.stored.proofs.has_last.Tie as tie
 
 abbrev Inv-loop : tie.InvT-loop
 Inv-loop entries left₀ at₀ left at = (at + 13 * left ≤ length entries) × (anyLast left₀ entries ≡ anyLast left (drop at entries))

@@ -9,10 +9,10 @@ use borrow.Author.Tests.{le-leb}
 use lib.ListN.{length}
 use Rattle.laws.proofs.Decide.{whens}
 use Rattle.store.specs.Store.{written}
-use Rattle.directory.specs.Stored.{addressOctets, storedEntry}
-use Rattle.directory.proofs.StoredLaws.{written-twice, written-long}
-use Rattle.directory.proofs.stored.write_entry.Statement.{statement}
-use Rattle.directory.proofs.stored.write_entry.Tie as tie
+use Rattle.stored.specs.Stored.{addressOctets, storedEntry}
+use Rattle.stored.proofs.StoredLaws.{written-twice, written-long}
+use Rattle.stored.proofs.write_entry.Statement.{statement}
+use Rattle.stored.proofs.write_entry.Tie as tie
 
 returns : tie.Need-returns
 unfolding storedEntry addressOctets
