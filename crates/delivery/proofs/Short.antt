@@ -15,7 +15,7 @@ use Rattle.provide.specs.declared.Part.{Part}
 use Rattle.provide.specs.declared.PartResult.{PartResult}
 use Rattle.provide.specs.declared.PartResult.the-variants as Q
 use Rattle.provide.proofs.Building.{limit-most}
-use Rattle.provide.proofs.Cuts.{segment-most}
+use Rattle.sections.proofs.Cuts.{segment-most}
 
 module _ (p : Provider) (file : List ℕ) where
   abbrev Short : PartResult → Type 0

@@ -8,7 +8,7 @@ use lib.ListN.{length, replicate}
 use Rattle.lists.specs.Parts.{joined}
 use Rattle.lists.proofs.Parts.{Fit, length-parts, joined-all, fit-all}
 use Rattle.checksum.specs.Checksum.{octetSum, checksum}
-use Rattle.provide.specs.Sections.{sectionLength, sectionCount, sections, segments}
+use Rattle.sections.specs.Sections.{sectionLength, sectionCount, sections, segments}
 use Rattle.exchange.specs.Transfer.{FatesOf, arrived, AllDamaged, Damaged, DamagedThenIntact}
 use Rattle.exchange.specs.Damaging.{raised, unhurt, hurt, namings, scriptRadio, Nameable}
 

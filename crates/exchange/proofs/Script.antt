@@ -16,7 +16,7 @@ use Rattle.ft.specs.Procedure.{conventional, addressRight, settled, addressed}
 use Rattle.ft.specs.Admission.{serves, frameAgrees, admitFrame, onAsdu, matched, onAnswer}
 use Rattle.ft.specs.Building.{framed, built}
 use Rattle.ft.specs.declared.Role.the-variants.{Controlling, Controlled}
-use Rattle.provide.specs.Sections.{sectionLength, sectionCount, sections, sectionOctets, segments}
+use Rattle.sections.specs.Sections.{sectionLength, sectionCount, sections, sectionOctets, segments}
 use Rattle.provide.specs.Record.{freshProvider, providerMade, fileAgrees}
 use Rattle.provide.specs.Requests.{onSc, afterSection, onAck, isOurs, onRequest, provide}
 use Rattle.receive.specs.Record.{freshReceiver, receiverMade, storeAgrees, awaited, started}

@@ -18,14 +18,14 @@ use Rattle.asdu.specs.declared.Chs.{Chs}
 use Rattle.frame.specs.declared.Frame.the-variants as F
 use Rattle.frame.specs.Answers.{answersTo, namesAgree, ackAnswered, oneOf}
 use Rattle.checksum.specs.Checksum.{checksum}
-use Rattle.provide.specs.Sections.{sectionLength, sectionCount, segments}
+use Rattle.sections.specs.Sections.{sectionLength, sectionCount, segments}
 use Rattle.provide.specs.Replies.{octetsOf, sectionReady, closeFrame}
 use Rattle.provide.specs.Requests.{replying, onAck}
 use Rattle.provide.specs.declared.Reply.the-variants.{SectionReady, Section, FileClose}
 use Rattle.provide.specs.declared.ProviderStep.{ProviderStep}
 use Rattle.provide.specs.declared.ProviderAnswer.{ProviderAnswer}
 use Rattle.provide.proofs.Facts.{requests-section, next-section, no-section, file-accepted}
-use Rattle.provide.proofs.SectionLaws.{enough, section-from}
+use Rattle.sections.proofs.SectionLaws.{enough, section-from}
 use Rattle.receive.proofs.Facts as RF
 use Rattle.receive.specs.Record.{withState, awaited}
 use Rattle.receive.specs.Answers.{onSectionReady, onClose, toSend}

@@ -20,7 +20,7 @@ use Rattle.frame.specs.declared.Frame.{Frame}
 use Rattle.frame.specs.declared.Frame.the-variants as F
 use Rattle.frame.specs.Answers.{answersTo, namesAgree, calledSection, scAnswered, sectionAnswered, ackAnswered, oneOf}
 use Rattle.checksum.specs.Checksum.{checksum}
-use Rattle.provide.specs.Sections.{segments}
+use Rattle.sections.specs.Sections.{segments}
 use Rattle.provide.specs.Replies.{Packet, bare, octetsOf, closeFrame, segmentPacket}
 use Rattle.provide.proofs.Facts.{section-again}
 use Rattle.provide.specs.declared.Reply.the-variants.{Section}

@@ -13,13 +13,13 @@ use Rattle.asdu.specs.declared.Nos.{Nos}
 use Rattle.asdu.specs.declared.Lof.{Lof}
 use Rattle.frame.specs.declared.Frame.the-variants as F
 use Rattle.frame.specs.Answers.{answersTo, namesAgree, calledSection, scAnswered, fileAnswered}
-use Rattle.provide.specs.Sections.{sections}
+use Rattle.sections.specs.Sections.{sections}
 use Rattle.provide.specs.Replies.{fileReady}
 use Rattle.provide.specs.declared.Reply.the-variants.{Nothing, FileReady, SectionReady}
 use Rattle.provide.specs.declared.ProviderAnswer.the-variants as PA
 use Rattle.provide.proofs.Building.{wide}
 use Rattle.provide.proofs.Facts.{selects-file, requests-file}
-use Rattle.provide.proofs.SectionLaws.{some-section}
+use Rattle.sections.proofs.SectionLaws.{some-section}
 use Rattle.receive.specs.Record.{awaited}
 use Rattle.receive.specs.Answers.{onFileReady, toSend}
 use Rattle.receive.specs.declared.Sent.the-variants as S

@@ -6,7 +6,7 @@ use Rattle.ft.specs.Procedure.{conventional}
 use Rattle.ft.specs.declared.Role.{Role}
 use Rattle.ft.specs.declared.Role.the-variants.{Controlled}
 use Rattle.ft.specs.declared.FileTransferProcedure.{FileTransferProcedure}
-use Rattle.provide.specs.Sections.{sectionCount}
+use Rattle.sections.specs.Sections.{sectionCount}
 use Rattle.exchange.specs.Exchange.{byProvider, byReceiver}
 use Rattle.exchange.specs.Stations.{stationWith}
 use Rattle.exchange.specs.Transfer.{Sendings}

@@ -15,7 +15,7 @@ use Rattle.checksum.specs.Checksum.{checksum}
 use Rattle.ft.specs.Directions.{otherRole}
 use Rattle.ft.specs.Admission.{serves}
 use Rattle.ft.specs.declared.FileTransferProcedure.{FileTransferProcedure}
-use Rattle.provide.specs.Sections.{sections, segments, sectionCount}
+use Rattle.sections.specs.Sections.{sections, segments, sectionCount}
 use Rattle.provide.specs.Record.{providerMade, ended}
 use Rattle.provide.specs.declared.Provider.{Provider}
 use Rattle.provide.specs.declared.ProviderResult.the-variants as PM

@@ -23,7 +23,7 @@ use Rattle.ft.specs.declared.Received.{Received}
 use Rattle.ft.specs.declared.Received.the-variants as D
 use Rattle.ft.specs.declared.Reaction.{Reaction}
 use Rattle.ft.specs.declared.Reaction.the-variants as A
-use Rattle.provide.specs.Sections.{segments}
+use Rattle.sections.specs.Sections.{segments}
 use Rattle.provide.specs.Record.{ended}
 use Rattle.provide.specs.Requests.{stepped, onSc, onAck, isOurs, onOurs, onRequest, onRequested, provideAdmitted, provide}
 use Rattle.provide.specs.Replies.{Packet, bare, octetsOf, limitOf, segmentPacket, fileReady, closeFrame, replies, frameOf, announced}

@@ -18,7 +18,7 @@ use Rattle.ft.specs.Procedure.{addressRight, settled, addressed}
 use Rattle.ft.specs.Admission.{serves, frameAgrees, admitFrame, onAsdu, matched, onAnswer}
 use Rattle.ft.specs.declared.Role.the-variants.{Controlling, Controlled}
 use Rattle.ft.specs.declared.Received.the-variants as D
-use Rattle.provide.specs.Sections.{sectionLength, sectionCount}
+use Rattle.sections.specs.Sections.{sectionLength, sectionCount}
 use Rattle.provide.specs.Record.{freshProvider, providerMade, fileAgrees}
 use Rattle.provide.specs.Requests.{afterSection, onAck, isOurs, onRequest, provide}
 use Rattle.receive.specs.Record.{freshReceiver, receiverMade, storeAgrees, awaited}

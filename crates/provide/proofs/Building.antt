@@ -25,13 +25,13 @@ use Rattle.ft.specs.declared.Role.{Role}
 use Rattle.ft.specs.declared.Role.the-variants.{Controlling, Controlled}
 use Rattle.ft.specs.declared.FileTransferProcedure.{FileTransferProcedure}
 use Rattle.ft.specs.declared.AsduResult.the-variants as A
-use Rattle.provide.specs.Sections.{segments}
+use Rattle.sections.specs.Sections.{segments}
 use Rattle.provide.specs.Record.{fileAgrees}
 use Rattle.provide.specs.Replies.{Packet, bare, octetsOf, limitOf, segmentPacket, closeFrame, replies}
 use Rattle.provide.specs.declared.Provider.{Provider}
 use Rattle.provide.specs.declared.Reply.{Reply}
 use Rattle.provide.specs.declared.Reply.the-variants.{Nothing, FileReady, SectionReady, Section, FileClose}
-use Rattle.provide.proofs.SectionLaws.{section-within}
+use Rattle.sections.proofs.SectionLaws.{section-within}
 use Rattle.provide.proofs.Making.{agrees}
 
 -- ---- stations

@@ -1,13 +1,9 @@
 -- What the Provider answers, by the action of a request or acknowledgement: the facts that the exchange cites.
-use Prim.Native.Nat.{ℕ, _+_, _*_, _-_, _≤_, _<_}
+use Prim.Native.Nat.{ℕ, _+_, _≤_, _<_}
 use mathlib.Core.Path.{_≡_, refl}
 use mathlib.Core.Bool.{true, false}
-use mathlib.Core.List.{List, []}
-use native.Mathlib.Omega.{arith}
-use native.Mathlib.Nat.{le-trans, mul-le-mul-right}
-use lib.ListN.{length, drop-of-length-le}
-use lib.Seq.{take-all}
-use borrow.Author.Tests.{lt-ltb, le-ltb, ne-eqb}
+use mathlib.Core.List.{List}
+use borrow.Author.Tests.{lt-ltb, le-ltb}
 use Rattle.laws.specs.When.{when}
 use Rattle.asdu.specs.declared.Nos.{Nos}
 use Rattle.asdu.specs.declared.Header.{Header}
@@ -16,13 +12,12 @@ use Rattle.frame.specs.declared.Frame.{Frame}
 use Rattle.ft.specs.Admission.{onAsdu}
 use Rattle.ft.specs.declared.Received.the-variants as D
 use Rattle.ft.specs.declared.Reaction.the-variants as A
-use Rattle.provide.specs.Sections.{sectionLength, sectionCount, sectionOctets}
+use Rattle.sections.specs.Sections.{sectionCount}
 use Rattle.provide.specs.Record.{fileAgrees, ended, counted}
 use Rattle.provide.specs.Requests.{stepped, replying, onSc, afterSection, onAck, isOurs, onOurs, onRequest, provide}
 use Rattle.provide.specs.declared.Provider.{Provider}
 use Rattle.provide.specs.declared.Reply.the-variants.{Nothing, FileReady, SectionReady, Section, FileClose}
 use Rattle.provide.specs.declared.ProviderAnswer.the-variants.{Complete}
-use Rattle.provide.proofs.SectionLaws.{enough}
 
 module _ (p : Provider) where
   -- a request that is admitted is heard
@@ -77,15 +72,3 @@ module _ (p : Provider) where
     pub file-accepted : onAck p nos (record { action = 1; error = error }) ≡ stepped (ended p) Complete
     unfolding onAck when
     file-accepted = refl
-
--- section 0 is empty, and so is every one past the end
-pub section-zero : (size : ℕ) (file : List ℕ) → sectionOctets size file 0 ≡ []
-unfolding sectionOctets when
-section-zero size file = refl
-
-pub section-past : (file : List ℕ) (nos : ℕ) → sectionCount (length file) < nos → sectionOctets (sectionLength (length file)) file nos ≡ []
-unfolding sectionOctets when
-section-past file nos h =
-    let far : length file ≤ (nos - 1) * sectionLength (length file) =
-    le-trans (enough (length file)) (mul-le-mul-right (sectionLength (length file)) (omega arith)) in
-    simp (ne-eqb nos 0 (λ e. omega arith), drop-of-length-le file far, take-all {A = ℕ} (sectionLength (length file)) [] (omega arith))

@@ -13,7 +13,7 @@ use Rattle.lists.proofs.Parts.{length-parts, part-at}
 use Rattle.asdu.specs.declared.Nos.{Nos}
 use Rattle.asdu.specs.declared.FtError.the-variants as E
 use Rattle.frame.specs.declared.Frame.{Frame}
-use Rattle.provide.specs.Sections.{segments, segmentOctets}
+use Rattle.sections.specs.Sections.{segments, segmentOctets}
 use Rattle.provide.specs.Record.{fileAgrees}
 use Rattle.provide.specs.Replies.{Packet, bare, octetsOf, limitOf, segmentPacket, closeFrame, replies, segmentCount, countOf, replyCount, only, segmentOf, sectionFrame, frameAt, replyFrame, onlyPart, sectionPart, partAt, replyPayload, partOctets, payloadOf}
 use Rattle.provide.specs.declared.Provider.{Provider}
@@ -22,7 +22,7 @@ use Rattle.provide.specs.declared.Reply.the-variants.{Nothing, FileReady
 use Rattle.provide.specs.declared.CountResult.the-variants as C
 use Rattle.provide.specs.declared.FrameResult.the-variants.{Ok, Err}
 use Rattle.provide.specs.declared.PartResult.the-variants as Q
-use Rattle.provide.proofs.SectionLaws.{segment-part}
+use Rattle.sections.proofs.SectionLaws.{segment-part}
 
 -- frame and payload of an index are those of a packet
 abbrev Is : Provider → List ℕ → Reply → ℕ → Packet → Type 0

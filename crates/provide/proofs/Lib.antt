@@ -1,5 +1,4 @@
-pub mod Cuts
-pub mod SectionLaws
+pub mod Segments
 pub mod Facts
 pub mod Making
 pub mod Announcing

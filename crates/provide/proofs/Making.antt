@@ -13,7 +13,7 @@ use Rattle.asdu.specs.declared.Nof.{Nof}
 use Rattle.asdu.specs.declared.FtError.{FtError}
 use Rattle.ft.specs.Procedure.{settled, addressRight, addressed}
 use Rattle.ft.specs.declared.FileTransferProcedure.{FileTransferProcedure}
-use Rattle.provide.specs.Sections.{sectionLength}
+use Rattle.sections.specs.Sections.{sectionLength}
 use Rattle.provide.specs.Record.{freshProvider, providerMade, fileAgrees}
 use Rattle.provide.specs.declared.Provider.{Provider}
 use Rattle.provide.specs.declared.ProviderResult.{ProviderResult}

@@ -4,7 +4,7 @@ use Rattle.laws.specs.When.{when}
 use Rattle.lists.specs.Parts.{divCeil}
 use Rattle.asdu.specs.Sizes.{elementRoom, segmentLimit}
 use Rattle.checksum.specs.Checksum.{octetSum, checksum}
-use Rattle.provide.specs.Sections.{sectionLength, sectionCount, sections}
+use Rattle.sections.specs.Sections.{sectionLength, sectionCount, sections}
 use Rattle.provide.specs.Record.{providerMade}
 use Rattle.provide.specs.Table.{Written}
 

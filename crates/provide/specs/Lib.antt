@@ -1,4 +1,3 @@
-pub mod Sections
 pub mod Record
 pub mod Replies
 pub mod Requests

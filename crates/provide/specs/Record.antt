@@ -10,7 +10,7 @@ use Rattle.asdu.specs.declared.Nof.{Nof}
 use Rattle.asdu.specs.declared.FtError.the-variants as E
 use Rattle.ft.specs.Procedure.{settled, addressed}
 use Rattle.ft.specs.declared.FileTransferProcedure.{FileTransferProcedure}
-use Rattle.provide.specs.Sections.{sectionLength}
+use Rattle.sections.specs.Sections.{sectionLength}
 use Rattle.provide.specs.declared.Provider.{Provider}
 use Rattle.provide.specs.declared.ProviderResult.{ProviderResult}
 use Rattle.provide.specs.declared.ProviderResult.the-variants.{Ok, Err}

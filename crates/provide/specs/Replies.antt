@@ -15,7 +15,7 @@ use Rattle.checksum.specs.Checksum.{checksum}
 use Rattle.ft.specs.Building.{built}
 use Rattle.ft.specs.declared.AsduResult.{AsduResult}
 use Rattle.ft.specs.declared.AsduResult.the-variants as A
-use Rattle.provide.specs.Sections.{sectionOctets, segments, segmentOctets, segmentStart}
+use Rattle.sections.specs.Sections.{sectionOctets, segments, segmentOctets, segmentStart}
 use Rattle.provide.specs.Record.{fileAgrees}
 use Rattle.provide.specs.declared.Provider.{Provider}
 use Rattle.provide.specs.declared.Reply.{Reply}

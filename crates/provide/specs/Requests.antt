@@ -21,7 +21,7 @@ use Rattle.ft.specs.declared.Received.{Received}
 use Rattle.ft.specs.declared.Received.the-variants as D
 use Rattle.ft.specs.declared.Reaction.{Reaction}
 use Rattle.ft.specs.declared.Reaction.the-variants as A
-use Rattle.provide.specs.Sections.{sectionCount}
+use Rattle.sections.specs.Sections.{sectionCount}
 use Rattle.provide.specs.Record.{fileAgrees, ended, counted}
 use Rattle.provide.specs.declared.Provider.{Provider}
 use Rattle.provide.specs.declared.ProviderStep.{ProviderStep}

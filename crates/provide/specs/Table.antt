@@ -10,7 +10,7 @@ use Rattle.asdu.specs.declared.FtError.the-variants.{FileTooLong}
 use Rattle.checksum.specs.Checksum.{checksum}
 use Rattle.ft.specs.Procedure.{addressed}
 use Rattle.ft.specs.declared.FileTransferProcedure.{FileTransferProcedure}
-use Rattle.provide.specs.Sections.{sectionLength, sectionCount, sections}
+use Rattle.sections.specs.Sections.{sectionLength, sectionCount, sections}
 use Rattle.provide.specs.Record.{providerMade}
 use Rattle.provide.specs.declared.ProviderResult.the-variants.{Err}
 

@@ -7,7 +7,6 @@ use crate::Part;
 use crate::PartResult;
 use crate::Provider;
 use crate::Reply;
-use crate::sections;
 use asdu::Frq;
 use asdu::FtError;
 use asdu::Lof;
@@ -20,7 +19,7 @@ use frame::Frame;
 use ft::AsduResult;
 ghost use mathlib.Core.Path.{_≡_};
 ghost use mathlib.Core.List.{[]};
-ghost use Prim.Native.Nat.{_+_, _≤_, _<_};
+ghost use Prim.Native.Nat.{_+_, _≤_};
 ghost use lib.ListN.{length};
 ghost use Rattle.provide.specs.Replies.{fileReady, octetsOf, sectionReady, segmentFrame, closeFrame, limitOf, segmentCount, countOf, replyCount, only, segmentOf, sectionFrame, frameAt, replyFrame, partOctets, onlyPart, sectionPart, partAt, replyPayload, frameOf, announced};
 
@@ -148,42 +147,38 @@ impl Provider {
         }
     }
 
-    // What a segment of this station can hold.
-    fn limit(self) -> usize
+    // What a segment of this station can hold: at most 240 octets, which is LOS's largest value.
+    fn limit(self) -> u8
         ensures { λ r. ⌜ r ≡ limitOf self ⌝ }
     {
         let procedure = self.procedure;
         let sizes = procedure.sizes;
-        sizes::max_segment(sizes)
+        sizes::max_segment(sizes) as u8
     }
 
     fn segment_count(self, file: &[u8], nos: Nos) -> usize
-        requires { ⌜ 0 < limitOf self ⌝ }
         ensures { λ r. ⌜ r ≡ segmentCount self (now (file .entry)) nos ⌝ }
     {
         let octets = self.octets(file, nos);
-        sections::div_ceil(octets.len(), self.limit())
+        sections::segment_count(octets.len() as u32, self.limit())
     }
 
     // Segment `index` of section `nos`.
-    fn segment(self, file: &[u8], nos: Nos, index: usize) -> &[u8]
-        requires { ⌜ index ≤ 0xFFFFFFFF ⌝ }
+    fn segment(self, file: &[u8], nos: Nos, index: u32) -> &[u8]
         ensures { λ r. ⌜ now r ≡ segmentOf self (now (file .entry)) nos index ⌝ }
     {
         let octets = self.octets(file, nos);
-        sections::part(octets, self.limit(), index)
+        sections::segment(octets, self.limit(), index)
     }
 
     // The frames of section `nos`: its segments and its close.
     fn section_frames(self, file: &[u8], nos: Nos) -> usize
-        requires { ⌜ 0 < limitOf self ⌝ }
         ensures { λ r. ⌜ r ≡ segmentCount self (now (file .entry)) nos + 1 ⌝ }
     {
         self.segment_count(file, nos) + 1
     }
 
     fn count_of(self, file: &[u8], reply: Reply) -> usize
-        requires { ⌜ 0 < limitOf self ⌝ }
         ensures { λ r. ⌜ r ≡ countOf self (now (file .entry)) reply ⌝ }
     {
         match reply {
@@ -197,12 +192,11 @@ impl Provider {
 
     // A section's segments, then its close.
     fn section_frame(self, file: &[u8], nos: Nos, index: usize) -> FrameResult
-        requires { ⌜ 0 < limitOf self ⌝ }
         ensures { λ r. ⌜ r ≡ sectionFrame self (now (file .entry)) nos index ⌝ }
     {
         let count = self.segment_count(file, nos);
         if index < count {
-            let payload = self.segment(file, nos, index);
+            let payload = self.segment(file, nos, index as u32);
             return FrameResult::Ok(self.segment_frame(nos, payload));
         }
         if index == count {
@@ -233,7 +227,6 @@ impl Provider {
     }
 
     fn frame_at(self, file: &[u8], reply: Reply, index: usize) -> FrameResult
-        requires { ⌜ 0 < limitOf self ⌝ }
         ensures { λ r. ⌜ r ≡ frameAt self (now (file .entry)) reply index ⌝ }
     {
         match reply {
@@ -247,13 +240,13 @@ impl Provider {
 
     // A segment's part of the file, then none for the close.
     fn section_part(self, file: &[u8], nos: Nos, index: usize) -> PartResult
-        requires { ⌜ 0 < limitOf self ⌝ }
         ensures { λ r. ⌜ r ≡ sectionPart self (now (file .entry)) nos index ⌝ }
     {
         let count = self.segment_count(file, nos);
         if index < count {
-            let payload = self.segment(file, nos, index);
-            let start = sections::segment_start(self.section_len, self.limit(), nos.value, index);
+            let at = index as u32;
+            let payload = self.segment(file, nos, at);
+            let start = sections::segment_start(self.section_len, self.limit(), nos, at);
             return PartResult::Ok(Part {
                 start,
                 length: payload.len(),
@@ -263,7 +256,6 @@ impl Provider {
     }
 
     fn part_at(self, file: &[u8], reply: Reply, index: usize) -> PartResult
-        requires { ⌜ 0 < limitOf self ⌝ }
         ensures { λ r. ⌜ r ≡ partAt self (now (file .entry)) reply index ⌝ }
     {
         match reply {

@@ -3,7 +3,6 @@
 mod frames; // the frames of a reply, by their index
 mod record; // the Provider's record, its making and its agreement with the lent file
 mod request; // what a Provider makes of a received frame
-mod sections; // sections and segments as parts of the lent file
 
 use asdu::Afq;
 use asdu::Cause;
@@ -13,9 +12,6 @@ use asdu::Nos;
 use asdu::Scq;
 use frame::Frame;
 use ft::FileTransferProcedure;
-
-// The section length of a file that needs no longer ones.
-pub const DEFAULT_SECTION_LEN: u32 = 4096;
 
 // The record of one file's transfer.
 pub struct Provider {

@@ -2,7 +2,6 @@
 use crate::FileName;
 use crate::Provider;
 use crate::ProviderResult;
-use crate::sections;
 use asdu::FtError;
 use asdu::Lof;
 use asdu::Nof;
@@ -12,7 +11,7 @@ ghost use mathlib.Core.Path.{_≡_};
 ghost use lib.Dec.{eqb, leb};
 ghost use lib.ListN.{length};
 ghost use Rattle.laws.specs.When.{_and_};
-ghost use Rattle.provide.specs.Sections.{sectionLength};
+ghost use Rattle.sections.specs.Sections.{sectionLength};
 ghost use Rattle.provide.specs.Record.{freshProvider, providerMade, fileAgrees, ended, counted};
 
 // The record of a file of this length that nobody has asked for yet.

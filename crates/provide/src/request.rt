@@ -4,7 +4,6 @@ use crate::Provider;
 use crate::ProviderAnswer;
 use crate::ProviderStep;
 use crate::Reply;
-use crate::sections;
 use asdu::Afq;
 use asdu::Cause;
 use asdu::FtError;

@@ -12,7 +12,7 @@ use lib.Seq.{drop-cons}
 use borrow.Author.Tests.{lt-ltb, le-ltb, eq-eqb, ne-eqb}
 use Rattle.laws.specs.When.{when}
 use Rattle.laws.proofs.Decide.{whens}
-use Rattle.provide.specs.Sections.{sectionOctets}
+use Rattle.sections.specs.Sections.{sectionOctets}
 use Rattle.exchange.specs.Damaging.{namings}
 use Rattle.radio.specs.Radio.{hasOctets, allHaveOctets}
 

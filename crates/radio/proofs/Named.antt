@@ -12,8 +12,8 @@ use borrow.Author.Tests.{eqb-true, ltb-true}
 use Rattle.laws.specs.When.{when}
 use Rattle.asdu.proofs.Range.{both}
 use Rattle.lists.specs.Parts.{parts}
-use Rattle.provide.specs.Sections.{sectionLength, sectionCount, sections}
-use Rattle.provide.proofs.SectionLaws.{enough, section-from}
+use Rattle.sections.specs.Sections.{sectionLength, sectionCount, sections}
+use Rattle.sections.proofs.SectionLaws.{enough, section-from}
 use Rattle.exchange.specs.Damaging.{namings, Nameable}
 use Rattle.radio.specs.Radio.{hasOctets, allHaveOctets}
 use Rattle.radio.proofs.Tuning.{Unnamed}

@@ -5,7 +5,7 @@ use mathlib.Core.List.{List, [], _∷_}
 use lib.Dec.{ltb}
 use lib.ListN.{length}
 use Rattle.laws.specs.When.{when, _and_}
-use Rattle.provide.specs.Sections.{sectionOctets}
+use Rattle.sections.specs.Sections.{sectionOctets}
 use Rattle.provide.specs.declared.Reply.{Reply}
 use Rattle.provide.specs.declared.ProviderAnswer.{ProviderAnswer}
 use Rattle.exchange.specs.Exchange.{isSection, isSending}

@@ -18,7 +18,7 @@ use Rattle.ft.specs.Procedure.{addressRight, settled, addressed}
 use Rattle.ft.specs.Admission.{serves}
 use Rattle.ft.specs.declared.Role.{Role}
 use Rattle.ft.specs.declared.Role.the-variants.{Controlling, Controlled}
-use Rattle.provide.specs.Sections.{sectionLength, sectionCount}
+use Rattle.sections.specs.Sections.{sectionLength, sectionCount}
 use Rattle.provide.specs.Record.{providerMade}
 use Rattle.provide.proofs.Building.{wide}
 use Rattle.provide.proofs.Making.{made}

@@ -16,7 +16,7 @@ use Rattle.ft.specs.declared.Received.the-variants as D
 use Rattle.ft.specs.declared.FileTransferProcedure.{FileTransferProcedure}
 use Rattle.provide.specs.Record.{fileAgrees}
 use Rattle.provide.specs.Replies.{Packet, bare, fileReady, segmentFrame, closeFrame, octetsOf, limitOf, segmentCount, segmentOf, replies, sectionFrame, replyFrame, replyPayload, payloadOf}
-use Rattle.provide.specs.Sections.{segments}
+use Rattle.sections.specs.Sections.{segments}
 use Rattle.provide.specs.declared.Provider.{Provider}
 use Rattle.provide.specs.Requests.{provide}
 use Rattle.provide.specs.declared.ProviderStep.{ProviderStep}

@@ -10,7 +10,7 @@ use borrow.Author.Tests.{eqb-true, ne-eqb}
 use Rattle.laws.specs.When.{when}
 use Rattle.lists.specs.Parts.{divCeil, parts}
 use Rattle.ft.specs.Procedure.{conventional}
-use Rattle.provide.specs.Sections.{sectionLength, sectionCount, sections}
+use Rattle.sections.specs.Sections.{sectionLength, sectionCount, sections}
 use Rattle.exchange.specs.Transfer.{sendingFrames, damagedSendings}
 use Rattle.exchange.specs.Damaging.{namings, scriptRadio}
 use Rattle.exchange.proofs.Script.{limit-is}

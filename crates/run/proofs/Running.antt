@@ -15,13 +15,13 @@ use Rattle.ft.specs.Procedure.{addressed}
 use Rattle.ft.specs.Building.{built}
 use Rattle.ft.specs.declared.AsduResult.{AsduResult}
 use Rattle.ft.specs.declared.AsduResult.the-variants as A
-use Rattle.provide.specs.Sections.{sectionLength, sectionCount}
+use Rattle.sections.specs.Sections.{sectionLength, sectionCount}
 use Rattle.provide.specs.Record.{freshProvider, providerMade}
 use Rattle.provide.specs.declared.ProviderAnswer.{ProviderAnswer}
 use Rattle.provide.specs.declared.ProviderResult.the-variants as PM
 use Rattle.provide.specs.declared.Provider.{Provider}
 use Rattle.provide.proofs.Making.{made, made-agrees}
-use Rattle.provide.proofs.SectionLaws.{some-section, few-sections}
+use Rattle.sections.proofs.SectionLaws.{some-section, few-sections}
 use Rattle.receive.specs.Record.{freshReceiver, receiverMade, storeAgrees, awaiting, opening, select, stepped, startedWith, started}
 use Rattle.receive.proofs.Making as R
 use Rattle.receive.specs.declared.Receiver.{Receiver}

@@ -4,9 +4,9 @@ use mathlib.Core.Path.{_≡_, refl, sym, ap, _∙_}
 use mathlib.Core.List.{List, [], _∷_, _++_, map, append-nil}
 use lib.ListN.{length, length-map}
 use Rattle.laws.specs.When.{when}
-use Rattle.provide.specs.Sections.{sectionCount}
+use Rattle.sections.specs.Sections.{sectionCount}
 use Rattle.provide.specs.declared.ProviderAnswer.{ProviderAnswer}
-use Rattle.provide.proofs.SectionLaws.{few-sections}
+use Rattle.sections.proofs.SectionLaws.{few-sections}
 use Rattle.receive.specs.declared.ReceiverAnswer.{ReceiverAnswer}
 use Rattle.exchange.specs.Exchange.{Passing, Noise, Exchange, run, ownHeaders}
 use Rattle.exchange.proofs.Budget.{stays, whole-frames}

@@ -9,7 +9,7 @@ use Rattle.asdu.specs.declared.FtError.{FtError}
 use Rattle.asdu.specs.declared.FtError.the-variants as E
 use Rattle.ft.specs.Directions.{otherRole}
 use Rattle.ft.specs.Procedure.{addressed}
-use Rattle.provide.specs.Sections.{sectionLength, sectionCount}
+use Rattle.sections.specs.Sections.{sectionLength, sectionCount}
 use Rattle.provide.specs.Record.{freshProvider}
 use Rattle.receive.specs.Record.{freshReceiver}
 use Rattle.exchange.specs.Exchange.{Passing, Exchange, ownHeaders, run, begun}

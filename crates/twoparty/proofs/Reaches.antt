@@ -19,8 +19,8 @@ use Rattle.provide.specs.declared.Reply.the-variants.{Nothing, FileReady, Secti
 use Rattle.provide.specs.declared.FrameResult.{FrameResult}
 use Rattle.provide.specs.declared.FrameResult.the-variants.{Ok, Err}
 use Rattle.provide.proofs.Making.{agrees}
-use Rattle.provide.proofs.SectionLaws.{section-within}
-use Rattle.provide.proofs.Cuts.{ceil-most, agreed-limit}
+use Rattle.sections.proofs.SectionLaws.{section-within}
+use Rattle.sections.proofs.Cuts.{ceil-most}
 
 -- a frame that is found past a test
 found : (b : Bool) (e : FtError) (x : FrameResult) (f : Frame) → when b x (Err e) ≡ Ok f → (b ≡ true) × (x ≡ Ok f)
@@ -45,7 +45,7 @@ module _ (p : Provider) (file : List ℕ) (agreed : fileAgrees p file ≡ true) 
       let g = agrees p file agreed in
       omega (
         arith,
-        ceil-most (length (octetsOf p file nos)) (limitOf p) (agreed-limit p file agreed),
+        ceil-most (length (octetsOf p file nos)) (limitOf p),
         section-within (p .«section_len») file (nos .value),
         leb-true (p .length) 0xFFFFFF (g .short),
         g .length,

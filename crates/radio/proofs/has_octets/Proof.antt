@@ -2,7 +2,7 @@ use Prim.Native.Nat.{_-_}
 use mathlib.Core.Path.{sym}
 use native.Mathlib.Omega.{arith}
 use borrow.Author.Needs.{needs}
-use Rattle.provide.proofs.Cuts.{product-fits}
+use Rattle.sections.proofs.Cuts.{product-fits}
 use Rattle.radio.proofs.Damage.{none-named, none-of-none, begins-within}
 use Rattle.radio.proofs.has_octets.Statement.{statement}
 use Rattle.radio.proofs.has_octets.Tie as tie

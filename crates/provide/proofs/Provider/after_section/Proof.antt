@@ -2,7 +2,7 @@ use Rattle.laws.proofs.Decide.{whens}
 use borrow.Author.Needs.{needs}
 use borrow.Author.Tests.{lt-ltb, le-ltb}
 use Rattle.provide.specs.Requests.{afterSection}
-use Rattle.provide.proofs.SectionLaws.{few-sections}
+use Rattle.sections.proofs.SectionLaws.{few-sections}
 use Rattle.provide.proofs.Provider.after_section.Statement.{statement}
 use Rattle.provide.proofs.Provider.after_section.Tie as tie
 

@@ -6,7 +6,8 @@ use denote.Ref.{now}
 use lib.ListN.{length}
 use Rattle.provide.specs.Replies.{octetsOf, limitOf, sectionFrame}
 use Rattle.provide.proofs.Building.{limit-most}
-use Rattle.provide.proofs.Cuts.{segment-most, segments-most}
+use Rattle.sections.proofs.Cuts.{segment-most}
+use Rattle.provide.proofs.Segments.{segments-most}
 use Rattle.provide.proofs.Provider.section_frame.Statement.{statement}
 use Rattle.provide.proofs.Provider.section_frame.Tie as tie
 
@@ -16,10 +17,11 @@ section-frame-spec =
     tie.close
     (tie.spec
     (λ c κs. search needs)
-    (λ c κs.
-    let s = c .before .before .before in
-    let most = segments-most (s .args .self) (now (s .args .file)) (s .args .nos) (s .pre) in
+    (λ c.
+    let a = c .before .before .before .args in
+    let most = segments-most (a .self) (now (a .file)) (a .nos) in
     search needs)
+    (λ c κs. search needs)
     (λ c κs.
     let a = c .before .before .before .before .args in
     let most = segment-most (limitOf (a .self)) (octetsOf (a .self) (now (a .file)) (a .nos)) (a .index) in

@@ -1,11 +1,9 @@
 use Rattle.laws.proofs.Decide.{whens}
 use borrow.Author.Needs.{needs}
 use borrow.Author.Tests.{lt-ltb, le-ltb}
-use native.Mathlib.Omega.{arith}
 use denote.Ref.{now}
 use Rattle.provide.specs.Replies.{sectionPart}
-use Rattle.provide.proofs.Building.{limit-most}
-use Rattle.provide.proofs.Cuts.{segments-most}
+use Rattle.provide.proofs.Segments.{segments-most}
 use Rattle.provide.proofs.Provider.section_part.Statement.{statement}
 use Rattle.provide.proofs.Provider.section_part.Tie as tie
 
@@ -15,15 +13,13 @@ section-part-spec =
     tie.close
     (tie.spec
     (λ c κs. search needs)
-    (λ c κs.
-    let s = c .before .before .before in
-    let most = segments-most (s .args .self) (now (s .args .file)) (s .args .nos) (s .pre) in
+    (λ c.
+    let a = c .before .before .before .args in
+    let most = segments-most (a .self) (now (a .file)) (a .nos) in
     search needs)
     (λ c κs. search needs)
-    (λ c κs.
-    let s = c .before .before .before .before .before in
-    let most = segments-most (s .args .self) (now (s .args .file)) (s .args .nos) (s .pre) in
-    (omega (arith, c .limit .ensures, limit-most (s .args .self .procedure .sizes)), search needs))
+    (λ c κs. search needs)
+    (λ c κs. search needs)
     (λ c.
     simp (
       whens,

@@ -2,7 +2,7 @@ use borrow.Author.Needs.{needs}
 use mathlib.Core.Path.{ap}
 use denote.Ref.{now}
 use lib.ListN.{length}
-use Rattle.provide.proofs.Cuts.{section-most}
+use Rattle.sections.proofs.Cuts.{section-most}
 use Rattle.provide.proofs.Provider.section_ready.Statement.{statement}
 use Rattle.provide.proofs.Provider.section_ready.Tie as tie
 

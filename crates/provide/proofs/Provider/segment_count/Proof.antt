@@ -1,11 +1,9 @@
 use borrow.Author.Needs.{needs}
-use Rattle.provide.specs.Replies.{segmentCount}
 use mathlib.Core.Path.{ap}
-use native.Mathlib.Omega.{arith}
 use denote.Ref.{now}
 use lib.ListN.{length}
-use Rattle.provide.proofs.Building.{limit-most}
-use Rattle.provide.proofs.Cuts.{section-most}
+use Rattle.sections.proofs.Cuts.{section-most}
+use Rattle.provide.specs.Replies.{segmentCount}
 use Rattle.provide.proofs.Provider.segment_count.Statement.{statement}
 use Rattle.provide.proofs.Provider.segment_count.Tie as tie
 
@@ -15,11 +13,11 @@ segment-count-spec =
     tie.close
     (tie.spec
     (λ c κs. search needs)
+    (λ c.
+    let a = c .before .before .args in
+    let most = section-most (a .self .«section_len») (now (a .file)) (a .nos .value) in
+    let e = ap length (c .octets .ensures) in
+    search needs)
     (λ c κs. search needs)
-    (λ c κs.
-    let s = c .before .before .before in
-    let most = section-most (s .args .self .«section_len») (now (s .args .file)) (s .args .nos .value) in
-    let e = ap length (c .before .octets .ensures) in
-    let limit = limit-most (s .args .self .procedure .sizes) in
-    (omega arith, omega arith))
-    (λ c. simp (← (c .div-ceil .ensures), ← (c .before .limit .ensures), ← (c .before .before .octets .ensures))))
+    (λ c κs. search needs)
+    (λ c. simp (← (c .segment-count .ensures), ← (c .before .limit .ensures), ← (c .before .before .octets .ensures))))

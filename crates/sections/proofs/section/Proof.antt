@@ -1,9 +1,9 @@
 use Rattle.laws.proofs.Decide.{whens}
 use borrow.Author.Needs.{needs}
 use borrow.Author.Tests.{eq-eqb, ne-eqb}
-use Rattle.provide.specs.Sections.{sectionOctets}
-use Rattle.provide.proofs.sections.section.Statement.{statement}
-use Rattle.provide.proofs.sections.section.Tie as tie
+use Rattle.sections.specs.Sections.{sectionOctets}
+use Rattle.sections.proofs.section.Statement.{statement}
+use Rattle.sections.proofs.section.Tie as tie
 
 pub section-spec : {M : Type 1} → statement M
 unfolding sectionOctets

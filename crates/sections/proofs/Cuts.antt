@@ -1,26 +1,22 @@
--- The bounds of a section's length and count, a part as it is named by two numbers, and what the agreement of record and file gives.
+-- The bounds of products, counts, sections and segments, and a part as it is named by two numbers.
 use mathlib.Core.Path.{_≡_, ap}
 use mathlib.Core.Bool.{Bool, true, false}
 use mathlib.Core.List.{List, [], _∷_}
-use Prim.Native.Nat.{ℕ, zero, suc, _+_, _-_, _*_, _≤_, _<_, min}
-use native.Mathlib.Nat.{zero-min, suc-min-suc, add-sub-cancel-left, le-max-left, min-le-left, mul-le-mul, le-trans, lt-of-le-of-lt, lt-of-mul-lt-mul-right}
+use Prim.Native.Nat.{ℕ, zero, suc, _+_, _-_, _*_, _≤_, min}
+use native.Mathlib.Nat.{zero-min, suc-min-suc, add-sub-cancel-left, min-le-left, mul-le-mul, lt-of-le-of-lt, lt-of-mul-lt-mul-right, div-zero}
 use native.Mathlib.Omega.{arith}
 use lib.Dec.{eqb, lit<}
 use lib.ListN.{length, take, drop, length-take, length-drop}
 use lib.Seq.{take-nil, drop-nil}
 use mir.Val.{Fits}
 use mir.Syntax.{w64}
-use Rattle.laws.specs.When.{when, _and_}
+use Rattle.laws.specs.When.{when}
 use Rattle.laws.proofs.Decide.{whens}
 use Rattle.lists.specs.Parts.{divCeil}
 use Rattle.lists.proofs.Parts.{ceil-least}
-use Rattle.asdu.specs.declared.Nos.{Nos}
-use Rattle.provide.specs.Sections.{sectionLength, sectionOctets, segmentOctets}
-use Rattle.provide.specs.Record.{fileAgrees}
-use Rattle.provide.specs.Replies.{octetsOf, limitOf, segmentCount}
-use Rattle.provide.specs.declared.Provider.{Provider}
-use Rattle.provide.proofs.Making.{agrees}
-use Rattle.provide.proofs.Building.{wide}
+use Rattle.sections.specs.Sections.{sectionOctets, segmentOctets}
+
+-- ---- products of 32 bits
 
 pub product-fits : (k n : ℕ) → k ≤ 0xFFFFFFFF → n ≤ 0xFFFFFFFF → Fits w64 (k * n)
 product-fits k n p q = record { fits = lt-of-le-of-lt (mul-le-mul p q) (lit< tt) }
@@ -28,16 +24,19 @@ product-fits k n p q = record { fits = lt-of-le-of-lt (mul-le-mul p q) (lit< tt)
 pub product-most : (k n a b : ℕ) → k ≤ a → n ≤ b → k * n ≤ a * b
 product-most k n a b p q = mul-le-mul p q
 
--- ---- lengths and counts
+-- ---- rounding up
 
-pub length-least : (n : ℕ) → 4096 ≤ sectionLength n
-unfolding sectionLength
-length-least n = le-max-left 4096 (divCeil n 255)
-
--- a 255th of a 32-bit length has 32 bits
-pub fitted-most : (n : ℕ) → n ≤ 0xFFFFFFFF → divCeil n 255 ≤ 0xFFFFFFFF
+-- parts of no length are none
+pub ceil-none : (a : ℕ) → divCeil a 0 ≡ 0
 unfolding divCeil
-fitted-most n h = omega arith
+ceil-none a = div-zero _
+
+-- there are at most as many parts as octets
+pub ceil-most : (a b : ℕ) → divCeil a b ≤ a
+ceil-most a zero = rw ceil-none (omega arith)
+ceil-most a (suc b) =
+    let l = ceil-least a (suc b) (omega arith) in
+    omega (arith, lt-of-mul-lt-mul-right (suc b) {m = divCeil a (suc b)} {n = a + 1} (omega arith))
 
 -- ---- parts
 
@@ -55,7 +54,7 @@ drop-short (suc n) (x ∷ l) = rw suc-min-suc (drop-short n l)
 pub part-named : (s : List ℕ) (size at : ℕ) → take (min at (length s) + min size (length s - min at (length s)) - min at (length s)) (drop (min at (length s)) s) ≡ take size (drop at s)
 part-named s size at = rw (add-sub-cancel-left, ← length-drop, take-short, drop-short)
 
--- ---- a section's octets and segments
+-- ---- the octets of a section and of a segment
 
 pub section-most : (size : ℕ) (file : List ℕ) (nos : ℕ) → length (sectionOctets size file nos) ≤ size
 unfolding sectionOctets
@@ -68,19 +67,3 @@ section-most size file nos = go (eqb nos 0)
 pub segment-most : (limit : ℕ) (section : List ℕ) (i : ℕ) → length (segmentOctets limit section i) ≤ limit
 unfolding segmentOctets
 segment-most limit section i = simp length-take (min-le-left limit _)
-
-pub ceil-most : (a b : ℕ) → 0 < b → divCeil a b ≤ a
-ceil-most a (suc b) h =
-    let l = ceil-least a (suc b) h in
-    omega (arith, lt-of-mul-lt-mul-right (suc b) {m = divCeil a (suc b)} {n = a + 1} (omega arith))
-
-pub segments-most : (p : Provider) (file : List ℕ) (nos : Nos) → 0 < limitOf p → segmentCount p file nos ≤ p .«section_len»
-unfolding segmentCount
-segments-most p file nos h =
-    le-trans (ceil-most (length (octetsOf p file nos)) (limitOf p) h) (section-most (p .«section_len») file (nos .value))
-
--- ---- of a record that agrees with the lent file
-
--- a segment of its station can hold something
-pub agreed-limit : (p : Provider) (file : List ℕ) → fileAgrees p file ≡ true → 0 < limitOf p
-agreed-limit p file h = wide (p .procedure) (agrees p file h .settings)

@@ -1,7 +1,7 @@
 use borrow.Author.Needs.{needs}
-use Rattle.provide.proofs.Cuts.{part-named}
-use Rattle.provide.proofs.sections.cut.Statement.{statement}
-use Rattle.provide.proofs.sections.cut.Tie as tie
+use Rattle.sections.proofs.Cuts.{part-named}
+use Rattle.sections.proofs.cut.Statement.{statement}
+use Rattle.sections.proofs.cut.Tie as tie
 
 pub cut-spec : {M : Type 1} → statement M
 cut-spec =

@@ -1,8 +1,8 @@
 use borrow.Author.Needs.{needs}
 use native.Mathlib.Omega.{arith}
-use Rattle.provide.proofs.Cuts.{product-fits}
-use Rattle.provide.proofs.sections.part.Statement.{statement}
-use Rattle.provide.proofs.sections.part.Tie as tie
+use Rattle.sections.proofs.Cuts.{product-fits}
+use Rattle.sections.proofs.part.Statement.{statement}
+use Rattle.sections.proofs.part.Tie as tie
 
 pub part-spec : {M : Type 1} → statement M
 part-spec =

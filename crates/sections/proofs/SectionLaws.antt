@@ -1,17 +1,18 @@
 -- A file's sections: at least one, at most 255, and together the file.
 use Prim.Native.Nat.{ℕ, suc, _+_, _-_, _*_, _≤_, _<_, max}
-use mathlib.Core.Path.{_≡_, _∙_}
+use mathlib.Core.Path.{_≡_, refl, _∙_}
 use mathlib.Core.Bool.{Bool, true, false}
 use mathlib.Core.List.{List, []}
 use native.Mathlib.Omega.{arith}
 use native.Mathlib.Nat.{le-trans, mul-le-mul-right, lt-of-mul-lt-mul-right}
 use lib.Dec.{eqb, eqb·suc-zero}
-use lib.ListN.{length, take, drop, getD, length-take, length-drop}
+use lib.ListN.{length, take, drop, getD, length-take, length-drop, drop-of-length-le}
+use borrow.Author.Tests.{ne-eqb}
 use lib.Seq.{take-all, take-nil, drop-nil}
 use Rattle.laws.specs.When.{when}
 use Rattle.lists.specs.Parts.{divCeil, joined}
 use Rattle.lists.proofs.Parts.{ceil-enough, ceil-least, joined-parts, part-at, part-of-part}
-use Rattle.provide.specs.Sections.{sectionLength, sectionCount, sections, sectionOctets, segmentOctets, segmentStart}
+use Rattle.sections.specs.Sections.{sectionLength, sectionCount, sections, sectionOctets, segmentOctets, segmentStart}
 
 pub some-section : (n : ℕ) → 0 < sectionCount n
 unfolding sectionCount
@@ -71,3 +72,15 @@ section-within size file nos = by-test (eqb nos 0)
     by-test : (b : Bool) → length (when b [] (take size (drop ((nos - 1) * size) file))) ≤ length file
     by-test true = omega arith
     by-test false = simp (length-take, length-drop) (omega arith)
+
+-- section 0 is empty, and so is every one past the end
+pub section-zero : (size : ℕ) (file : List ℕ) → sectionOctets size file 0 ≡ []
+unfolding sectionOctets when
+section-zero size file = refl
+
+pub section-past : (file : List ℕ) (nos : ℕ) → sectionCount (length file) < nos → sectionOctets (sectionLength (length file)) file nos ≡ []
+unfolding sectionOctets when
+section-past file nos h =
+    let far : length file ≤ (nos - 1) * sectionLength (length file) =
+    le-trans (enough (length file)) (mul-le-mul-right (sectionLength (length file)) (omega arith)) in
+    simp (ne-eqb nos 0 (λ e. omega arith), drop-of-length-le file far, take-all {A = ℕ} (sectionLength (length file)) [] (omega arith))
