@@ -38,3 +38,8 @@ announced-is p file e =
     simp (e, b .0, b .1, g .short, g .object)
     (framed-when (usesFunction (p .procedure .selection)) (serves (p .procedure) (p .procedure .role) false)
     (record { header = headerOf (p .procedure .ca) (p .procedure .org) (fileReady p); frame = fileReady p }))
+
+-- and of those that do not, 26
+pub announced-off : (p : Provider) (file : List ℕ) → fileAgrees p file ≡ false → announced p file ≡ Err E.RecordMismatch
+unfolding announced when
+announced-off p file e = simp e

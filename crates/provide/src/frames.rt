@@ -16,19 +16,10 @@ use asdu::Nos;
 use asdu::Srq;
 use asdu::sizes;
 use frame::Frame;
-use ft::AsduResult;
 ghost use mathlib.Core.Path.{_≡_};
-ghost use mathlib.Core.List.{[]};
 ghost use Prim.Native.Nat.{_+_, _≤_};
 ghost use lib.ListN.{length};
-ghost use Rattle.provide.specs.Replies.{fileReady, octetsOf, sectionReady, segmentFrame, closeFrame, limitOf, segmentCount, countOf, replyCount, only, segmentOf, sectionFrame, frameAt, replyFrame, partOctets, onlyPart, sectionPart, partAt, replyPayload, frameOf, announced};
-
-// No octets.
-fn none(octets: &[u8]) -> &[u8]
-    ensures { λ r. ⌜ now r ≡ [] ⌝ }
-{
-    &octets[0..0]
-}
+ghost use Rattle.provide.specs.Replies.{fileReady, octetsOf, sectionReady, segmentFrame, closeFrame, limitOf, segmentCount, countOf, replyCount, only, segmentOf, sectionFrame, frameAt, replyFrame, partOctets, onlyPart, sectionPart, partAt, replyPayload, announced};
 
 // The one frame of a reply, at index 0.
 fn only(frame: Frame, index: usize) -> FrameResult
@@ -59,19 +50,6 @@ impl Part {
         ensures { λ r. ⌜ now r ≡ partOctets self (now (file .entry)) ⌝ }
     {
         sections::cut(file, self.start, self.length)
-    }
-}
-
-// The frame without its header.
-fn frame_of(made: AsduResult) -> FrameResult
-    ensures { λ r. ⌜ r ≡ frameOf made ⌝ }
-{
-    match made {
-        AsduResult::Ok(asdu) => {
-            let frame = asdu.frame;
-            FrameResult::Ok(frame)
-        }
-        AsduResult::Err(error) => FrameResult::Err(error),
     }
 }
 
@@ -299,14 +277,24 @@ impl Provider {
     }
 
     // The file ready that offers the file without a select: how the control direction's provider opens
-    // the transfer. 26, then what `build` refuses; a done record announces too.
+    // the transfer. 26, then what `build` refuses: 21 where the station uses neither direction, 22 where
+    // not that of its own frames. No more can be refused of a record that agrees with its file. A done
+    // record announces too.
     pub fn announce(self, file: &[u8]) -> FrameResult
         ensures { λ r. ⌜ r ≡ announced self (now (file .entry)) ⌝ }
     {
         let procedure = self.procedure;
-        if self.agrees(file) {
-            return frame_of(procedure.build(self.file_ready(), none(file)));
+        let selection = procedure.selection;
+        let role = procedure.role;
+        if !self.agrees(file) {
+            return FrameResult::Err(FtError::RecordMismatch);
         }
-        FrameResult::Err(FtError::RecordMismatch)
+        if !selection.uses_function() {
+            return FrameResult::Err(FtError::FunctionNotUsed);
+        }
+        if !procedure.serves(role, false) {
+            return FrameResult::Err(FtError::NotSelectedDirection);
+        }
+        FrameResult::Ok(self.file_ready())
     }
 }
