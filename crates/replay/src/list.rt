@@ -4,6 +4,7 @@ use directory_calls::paging;
 use frame_calls::elements;
 use frame_calls::frames;
 use frame_calls::making;
+use frame_calls::parts;
 use machine_calls::providing;
 use machine_calls::receiving;
 use station_calls::kept;
@@ -23,6 +24,9 @@ fn is_plain(line: &[u8], octets: &mut Octets) -> bool {
         return true;
     }
     if frames::call(line, &mut args, octets) {
+        return true;
+    }
+    if parts::call(line, &mut args, octets) {
         return true;
     }
     making::call(line, &mut args, octets)
