@@ -9,8 +9,8 @@ use Rattle.laws.proofs.Choices.{either}
 use Rattle.provide.specs.Record.{fileAgrees}
 use Rattle.provide.specs.Replies.{octetsOf, limitOf, segmentCount, onlyPart, sectionPart, partAt, replyPayload, partOctets, payloadOf}
 use Rattle.provide.specs.declared.Provider.{Provider}
-use Rattle.provide.specs.declared.Reply.{Reply}
-use Rattle.provide.specs.declared.Reply.the-variants.{Nothing, FileReady, SectionReady, Section, FileClose}
+use Rattle.requests.specs.declared.Reply.{Reply}
+use Rattle.requests.specs.declared.Reply.the-variants.{Nothing, FileReady, SectionReady, Section, FileClose}
 use Rattle.provide.specs.declared.Part.{Part}
 use Rattle.provide.specs.declared.PartResult.{PartResult}
 use Rattle.provide.specs.declared.PartResult.the-variants as Q

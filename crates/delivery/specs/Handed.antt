@@ -14,7 +14,7 @@ use Rattle.provide.specs.Replies.{replyPayload, payloadOf}
 use Rattle.provide.specs.Requests.{provide}
 use Rattle.provide.specs.declared.Provider.{Provider}
 use Rattle.provide.specs.declared.ProviderStep.{ProviderStep}
-use Rattle.provide.specs.declared.Reply.{Reply}
+use Rattle.requests.specs.declared.Reply.{Reply}
 use Rattle.receive.specs.Record.{awaited}
 use Rattle.receive.specs.Answers.{Outcome, receive}
 use Rattle.receive.specs.declared.Receiver.{Receiver}

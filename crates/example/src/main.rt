@@ -15,15 +15,15 @@ use provide::CountResult;
 use provide::FrameResult;
 use provide::PartResult;
 use provide::Provider;
-use provide::ProviderAnswer;
 use provide::ProviderResult;
 use provide::ProviderStep;
-use provide::Reply;
 use receive::Receiver;
 use receive::ReceiverAnswer;
 use receive::ReceiverResult;
 use receive::ReceiverStep;
 use receive::ToSend;
+use requests::ProviderAnswer;
+use requests::Reply;
 
 // The common address of both stations, and the file: its object address and name.
 const STATION: u16 = 1;

@@ -18,7 +18,8 @@ use Rattle.ft.specs.Building.{framed, built}
 use Rattle.ft.specs.declared.Role.the-variants.{Controlling, Controlled}
 use Rattle.sections.specs.Sections.{sectionLength, sectionCount, sections, sectionOctets, segments}
 use Rattle.provide.specs.Record.{freshProvider, providerMade, fileAgrees}
-use Rattle.provide.specs.Requests.{onSc, afterSection, onAck, isOurs, onRequest, provide}
+use Rattle.provide.specs.Requests.{onSc, onAck, isOurs, onRequest, provide}
+use Rattle.requests.specs.Answers.{scAnswer, afterSection, ackAnswer}
 use Rattle.receive.specs.Record.{freshReceiver, receiverMade, storeAgrees, awaited, started}
 use Rattle.store.specs.Store.{written}
 use Rattle.acceptance.specs.Closed.{sectionClosed, fileClosed}
@@ -81,5 +82,5 @@ script-transferred = two-party-transfer script
 
 -- its output, line by line
 pub script-output : map lineOf (exchanged script 13 .passed) ≡ scriptLines
-unfolding script when divCeil scqInRange afqInRange losInRange isMirror within sizesRight headerLen maxIoa maxCommonAddress elementRoom segmentLimit scCause isFileType segmentInRange calledSection oneOf fileAnswered sectionAnswered scAnswered ackAnswered namesAgree answersTo octetSum checksum usesFunction addressRight settled serves frameAgrees admitFrame onAsdu matched onAnswer addressed framed built sectionLength sectionCount sections sectionOctets segments fileAgrees onSc afterSection onAck isOurs onRequest provide storeAgrees written awaited started onFileReady onSectionReady sectionClosed onSectionClose fileClosed onFileClose onClose onSegment receive toSend
+unfolding script when divCeil scqInRange afqInRange losInRange isMirror within sizesRight headerLen maxIoa maxCommonAddress elementRoom segmentLimit scCause isFileType segmentInRange calledSection oneOf fileAnswered sectionAnswered scAnswered ackAnswered namesAgree answersTo octetSum checksum usesFunction addressRight settled serves frameAgrees admitFrame onAsdu matched onAnswer addressed framed built sectionLength sectionCount sections sectionOctets segments fileAgrees scAnswer onSc afterSection ackAnswer onAck isOurs onRequest provide storeAgrees written awaited started onFileReady onSectionReady sectionClosed onSectionClose fileClosed onFileClose onClose onSegment receive toSend
 script-output = refl

@@ -21,9 +21,9 @@ use Rattle.checksum.specs.Checksum.{checksum}
 use Rattle.sections.specs.Sections.{sectionLength, sectionCount, segments}
 use Rattle.provide.specs.Replies.{octetsOf, sectionReady, closeFrame}
 use Rattle.provide.specs.Requests.{replying, onAck}
-use Rattle.provide.specs.declared.Reply.the-variants.{SectionReady, Section, FileClose}
+use Rattle.requests.specs.declared.Reply.the-variants.{SectionReady, Section, FileClose}
 use Rattle.provide.specs.declared.ProviderStep.{ProviderStep}
-use Rattle.provide.specs.declared.ProviderAnswer.{ProviderAnswer}
+use Rattle.requests.specs.declared.ProviderAnswer.{ProviderAnswer}
 use Rattle.provide.proofs.Facts.{requests-section, next-section, no-section, file-accepted}
 use Rattle.sections.proofs.SectionLaws.{enough, section-from}
 use Rattle.receive.proofs.Facts as RF

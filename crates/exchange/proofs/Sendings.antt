@@ -23,9 +23,9 @@ use Rattle.checksum.specs.Checksum.{checksum}
 use Rattle.sections.specs.Sections.{segments}
 use Rattle.provide.specs.Replies.{Packet, bare, octetsOf, closeFrame, segmentPacket}
 use Rattle.provide.proofs.Facts.{section-again}
-use Rattle.provide.specs.declared.Reply.the-variants.{Section}
-use Rattle.provide.specs.declared.ProviderAnswer.{ProviderAnswer}
-use Rattle.provide.specs.declared.ProviderAnswer.the-variants as PA
+use Rattle.requests.specs.declared.Reply.the-variants.{Section}
+use Rattle.requests.specs.declared.ProviderAnswer.{ProviderAnswer}
+use Rattle.requests.specs.declared.ProviderAnswer.the-variants as PA
 use Rattle.receive.specs.Record.{awaited}
 use Rattle.receive.specs.Answers.{onClose, toSend}
 use Rattle.receive.specs.declared.Length.{Length}

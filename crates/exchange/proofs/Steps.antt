@@ -18,10 +18,10 @@ use Rattle.frame.specs.Ranges.{segmentInRange, valuesInRange}
 use Rattle.frame.specs.Answers.{answersTo}
 use Rattle.provide.specs.Replies.{bare, segmentPacket, replies}
 use Rattle.provide.specs.Requests.{replying, onSc, onAck}
-use Rattle.provide.specs.declared.Reply.{Reply}
+use Rattle.requests.specs.declared.Reply.{Reply}
 use Rattle.provide.specs.declared.ProviderStep.{ProviderStep}
-use Rattle.provide.specs.declared.ProviderAnswer.{ProviderAnswer}
-use Rattle.provide.specs.declared.ProviderAnswer.the-variants as PA
+use Rattle.requests.specs.declared.ProviderAnswer.{ProviderAnswer}
+use Rattle.requests.specs.declared.ProviderAnswer.the-variants as PA
 use Rattle.provide.proofs.Building.{limit-most}
 use Rattle.receive.specs.Record.{frameOf}
 use Rattle.receive.specs.Answers.{onAnswered, toSend}

@@ -15,8 +15,8 @@ use Rattle.frame.specs.declared.Frame.the-variants as F
 use Rattle.frame.specs.Answers.{answersTo, namesAgree, calledSection, scAnswered, fileAnswered}
 use Rattle.sections.specs.Sections.{sections}
 use Rattle.provide.specs.Replies.{fileReady}
-use Rattle.provide.specs.declared.Reply.the-variants.{Nothing, FileReady, SectionReady}
-use Rattle.provide.specs.declared.ProviderAnswer.the-variants as PA
+use Rattle.requests.specs.declared.Reply.the-variants.{Nothing, FileReady, SectionReady}
+use Rattle.requests.specs.declared.ProviderAnswer.the-variants as PA
 use Rattle.provide.proofs.Building.{wide}
 use Rattle.provide.proofs.Facts.{selects-file, requests-file}
 use Rattle.sections.proofs.SectionLaws.{some-section}

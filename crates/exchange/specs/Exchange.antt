@@ -12,10 +12,10 @@ use Rattle.ft.specs.Building.{headerOf}
 use Rattle.ft.specs.declared.Received.the-variants as D
 use Rattle.provide.specs.declared.Provider.{Provider}
 use Rattle.provide.specs.declared.ProviderStep.{ProviderStep}
-use Rattle.provide.specs.declared.ProviderAnswer.{ProviderAnswer}
-use Rattle.provide.specs.declared.ProviderAnswer.the-variants as P
-use Rattle.provide.specs.declared.Reply.{Reply}
-use Rattle.provide.specs.declared.Reply.the-variants.{Nothing, FileReady, SectionReady, Section, FileClose}
+use Rattle.requests.specs.declared.ProviderAnswer.{ProviderAnswer}
+use Rattle.requests.specs.declared.ProviderAnswer.the-variants as P
+use Rattle.requests.specs.declared.Reply.{Reply}
+use Rattle.requests.specs.declared.Reply.the-variants.{Nothing, FileReady, SectionReady, Section, FileClose}
 use Rattle.provide.specs.Replies.{Packet, bare, replies}
 use Rattle.provide.specs.Requests.{provide}
 use Rattle.receive.specs.declared.Receiver.{Receiver}

@@ -19,7 +19,7 @@ use Rattle.sections.specs.Sections.{sections, segments, sectionCount}
 use Rattle.provide.specs.Record.{providerMade, ended}
 use Rattle.provide.specs.declared.Provider.{Provider}
 use Rattle.provide.specs.declared.ProviderResult.the-variants as PM
-use Rattle.provide.specs.declared.ProviderAnswer.the-variants as P
+use Rattle.requests.specs.declared.ProviderAnswer.the-variants as P
 use Rattle.receive.specs.Record.{receiverMade, withState}
 use Rattle.receive.specs.declared.Receiver.{Receiver}
 use Rattle.receive.specs.declared.ReceiverResult.the-variants as RM

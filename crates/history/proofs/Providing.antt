@@ -25,14 +25,15 @@ use Rattle.ft.specs.declared.Reaction.{Reaction}
 use Rattle.ft.specs.declared.Reaction.the-variants as A
 use Rattle.sections.specs.Sections.{segments}
 use Rattle.provide.specs.Record.{ended}
-use Rattle.provide.specs.Requests.{stepped, onSc, onAck, isOurs, onOurs, onRequest, onRequested, provideAdmitted, provide}
+use Rattle.provide.specs.Requests.{stepped, answeredWith, onSc, onAck, isOurs, onOurs, onRequest, onRequested, provideAdmitted, provide}
 use Rattle.provide.specs.Replies.{Packet, bare, octetsOf, limitOf, segmentPacket, fileReady, closeFrame, replies, frameOf, announced}
 use Rattle.provide.specs.declared.Provider.{Provider}
 use Rattle.provide.specs.declared.ProviderStep.{ProviderStep}
-use Rattle.provide.specs.declared.Reply.{Reply}
-use Rattle.provide.specs.declared.Reply.the-variants.{Nothing, FileReady, SectionReady, Section, FileClose}
-use Rattle.provide.specs.declared.ProviderAnswer.{ProviderAnswer}
-use Rattle.provide.specs.declared.ProviderAnswer.the-variants as P
+use Rattle.requests.specs.Answers.{scAnswer, ackAnswer}
+use Rattle.requests.specs.declared.Reply.{Reply}
+use Rattle.requests.specs.declared.Reply.the-variants.{Nothing, FileReady, SectionReady, Section, FileClose}
+use Rattle.requests.specs.declared.ProviderAnswer.{ProviderAnswer}
+use Rattle.requests.specs.declared.ProviderAnswer.the-variants as P
 use Rattle.provide.specs.declared.FrameResult.{FrameResult}
 use Rattle.provide.specs.declared.FrameResult.the-variants.{Err}
 use Rattle.exchange.specs.Exchange.{providerSends}
@@ -139,20 +140,25 @@ module _ (p : Provider) (received : Received) where
   is-right : (t : ProviderStep) → t .provider .ioa ≡ p .ioa → t .provider .nof ≡ p .nof → AsAnswered t (t .answer) → Right t
   is-right t i n a = record { object = i; name = n; right = a }
 
+  -- an answer beside the record
+  abbrev RightAnswer : ProviderAnswer → Type 0
+  RightAnswer a = Right (answeredWith p a)
+
   sc-right : (nos : Nos) (q : Scq) → Right (onSc p nos q)
-  unfolding onSc
+  unfolding onSc scAnswer
   sc-right nos q =
-      either Right _ _ _ (is-right _ refl refl tt)
-      (either Right _ _ _ (is-right _ refl refl tt) (either Right _ _ _ (is-right _ refl refl tt) (either Right _ _ _ (is-right _ refl refl tt) (is-right _ refl refl tt))))
+      either RightAnswer _ _ _ (is-right _ refl refl tt)
+      (either RightAnswer _ _ _ (is-right _ refl refl tt)
+      (either RightAnswer _ _ _ (is-right _ refl refl tt) (either RightAnswer _ _ _ (is-right _ refl refl tt) (is-right _ refl refl tt))))
 
   -- AFQ 1 alone completes
   ack-right : (ioa : ℕ) (nof : Nof) (nos : Nos) (q : Afq) → received ≡ D.Frame (F.Ack ioa nof nos q) → sameFile (p .ioa) (p .nof) ioa nof ≡ true
       → Right (onAck p nos q)
-  unfolding onAck
+  unfolding onAck ackAnswer
   ack-right ioa nof nos q is ours =
-      either Right _ _ _ (is-right _ refl refl tt)
-      (either Right _ _ _ (is-right _ refl refl tt)
-      (if-so Right _ _ _
+      either RightAnswer _ _ _ (is-right _ refl refl tt)
+      (either RightAnswer _ _ _ (is-right _ refl refl tt)
+      (if-so RightAnswer _ _ _
       (λ e.
       is-right (stepped (ended p) P.Complete) refl refl
       (record { frame = F.Ack ioa nof nos q; handed = is; acknowledgement = both-so _ _ e ours; done = refl }))

@@ -13,8 +13,8 @@ use Rattle.ft.specs.declared.Received.the-variants as D
 use Rattle.provide.specs.Replies.{announced}
 use Rattle.provide.specs.declared.Provider.{Provider}
 use Rattle.provide.specs.declared.ProviderStep.{ProviderStep}
-use Rattle.provide.specs.declared.ProviderAnswer.{ProviderAnswer}
-use Rattle.provide.specs.declared.ProviderAnswer.the-variants as P
+use Rattle.requests.specs.declared.ProviderAnswer.{ProviderAnswer}
+use Rattle.requests.specs.declared.ProviderAnswer.the-variants as P
 use Rattle.provide.proofs.Making as PM
 use Rattle.receive.specs.Record.{started}
 use Rattle.receive.specs.Answers.{Outcome, leaving}

@@ -19,7 +19,7 @@ use Rattle.provide.specs.Requests.{provide}
 use Rattle.provide.specs.Replies.{Packet}
 use Rattle.provide.specs.declared.Provider.{Provider}
 use Rattle.provide.specs.declared.ProviderStep.{ProviderStep}
-use Rattle.provide.specs.declared.ProviderAnswer.the-variants as P
+use Rattle.requests.specs.declared.ProviderAnswer.the-variants as P
 use Rattle.receive.specs.Record.{keptOctets}
 use Rattle.receive.specs.Answers.{Outcome, receive}
 use Rattle.receive.specs.declared.Receiver.{Receiver}

@@ -1,9 +1,9 @@
 // The Provider and the Receiver that a list keeps, as numbers at places that follow each other.
 use provide::Provider;
-use provide::Reply;
 use receive::Length;
 use receive::Receiver;
 use receive::Sent;
+use requests::Reply;
 use station_calls::kept::keep_station;
 use station_calls::kept::station;
 use values::make;

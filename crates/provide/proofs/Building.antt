@@ -29,8 +29,8 @@ use Rattle.sections.specs.Sections.{segments}
 use Rattle.provide.specs.Record.{fileAgrees}
 use Rattle.provide.specs.Replies.{Packet, bare, octetsOf, limitOf, segmentPacket, closeFrame, replies}
 use Rattle.provide.specs.declared.Provider.{Provider}
-use Rattle.provide.specs.declared.Reply.{Reply}
-use Rattle.provide.specs.declared.Reply.the-variants.{Nothing, FileReady, SectionReady, Section, FileClose}
+use Rattle.requests.specs.declared.Reply.{Reply}
+use Rattle.requests.specs.declared.Reply.the-variants.{Nothing, FileReady, SectionReady, Section, FileClose}
 use Rattle.sections.proofs.SectionLaws.{section-within}
 use Rattle.provide.proofs.Making.{agrees}
 

@@ -14,10 +14,11 @@ use Rattle.ft.specs.declared.Received.the-variants as D
 use Rattle.ft.specs.declared.Reaction.the-variants as A
 use Rattle.sections.specs.Sections.{sectionCount}
 use Rattle.provide.specs.Record.{fileAgrees, ended, counted}
-use Rattle.provide.specs.Requests.{stepped, replying, onSc, afterSection, onAck, isOurs, onOurs, onRequest, provide}
+use Rattle.provide.specs.Requests.{stepped, replying, onSc, onAck, isOurs, onOurs, onRequest, provide}
 use Rattle.provide.specs.declared.Provider.{Provider}
-use Rattle.provide.specs.declared.Reply.the-variants.{Nothing, FileReady, SectionReady, Section, FileClose}
-use Rattle.provide.specs.declared.ProviderAnswer.the-variants.{Complete}
+use Rattle.requests.specs.Answers.{scAnswer, afterSection, ackAnswer}
+use Rattle.requests.specs.declared.Reply.the-variants.{Nothing, FileReady, SectionReady, Section, FileClose}
+use Rattle.requests.specs.declared.ProviderAnswer.the-variants.{Complete}
 
 module _ (p : Provider) where
   -- a request that is admitted is heard
@@ -39,36 +40,36 @@ module _ (p : Provider) where
   module _ (nos : Nos) (error : ℕ) where
     -- select file, request file, select section, request section
     pub selects-file : onSc p nos (record { action = 1; error = error }) ≡ replying p FileReady
-    unfolding onSc when
+    unfolding onSc scAnswer when
     selects-file = refl
 
     pub requests-file : onSc p nos (record { action = 2; error = error }) ≡ replying p (SectionReady (record { value = 1 }))
-    unfolding onSc when
+    unfolding onSc scAnswer when
     requests-file = refl
 
     pub selects-section : onSc p nos (record { action = 5; error = error }) ≡ replying p (SectionReady nos)
-    unfolding onSc when
+    unfolding onSc scAnswer when
     selects-section = refl
 
     pub requests-section : onSc p nos (record { action = 6; error = error }) ≡ replying p (Section nos)
-    unfolding onSc when
+    unfolding onSc scAnswer when
     requests-section = refl
 
     -- a section accepted: the next one, or the file's close
     pub next-section : nos .value < sectionCount (p .length) → onAck p nos (record { action = 3; error = error }) ≡ replying p (SectionReady (record { value = nos .value + 1 }))
-    unfolding onAck afterSection when
+    unfolding onAck ackAnswer afterSection when
     next-section h = simp (lt-ltb (nos .value) (sectionCount (p .length)) h)
 
     pub no-section : sectionCount (p .length) ≤ nos .value → onAck p nos (record { action = 3; error = error }) ≡ replying p (FileClose nos)
-    unfolding onAck afterSection when
+    unfolding onAck ackAnswer afterSection when
     no-section h = simp (le-ltb (nos .value) (sectionCount (p .length)) h)
 
     -- a section refused: it is sent again
     pub section-again : onAck p nos (record { action = 4; error = error }) ≡ replying p (Section nos)
-    unfolding onAck when
+    unfolding onAck ackAnswer when
     section-again = refl
 
     -- the file accepted
     pub file-accepted : onAck p nos (record { action = 1; error = error }) ≡ stepped (ended p) Complete
-    unfolding onAck when
+    unfolding onAck ackAnswer when
     file-accepted = refl

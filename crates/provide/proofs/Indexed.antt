@@ -17,8 +17,8 @@ use Rattle.sections.specs.Sections.{segments, segmentOctets}
 use Rattle.provide.specs.Record.{fileAgrees}
 use Rattle.provide.specs.Replies.{Packet, bare, octetsOf, limitOf, segmentPacket, closeFrame, replies, segmentCount, countOf, replyCount, only, segmentOf, sectionFrame, frameAt, replyFrame, onlyPart, sectionPart, partAt, replyPayload, partOctets, payloadOf}
 use Rattle.provide.specs.declared.Provider.{Provider}
-use Rattle.provide.specs.declared.Reply.{Reply}
-use Rattle.provide.specs.declared.Reply.the-variants.{Nothing, FileReady, SectionReady, Section, FileClose}
+use Rattle.requests.specs.declared.Reply.{Reply}
+use Rattle.requests.specs.declared.Reply.the-variants.{Nothing, FileReady, SectionReady, Section, FileClose}
 use Rattle.provide.specs.declared.CountResult.the-variants as C
 use Rattle.provide.specs.declared.FrameResult.the-variants.{Ok, Err}
 use Rattle.provide.specs.declared.PartResult.the-variants as Q

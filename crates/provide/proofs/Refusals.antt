@@ -17,8 +17,9 @@ use Rattle.ft.specs.declared.Received.{Received}
 use Rattle.ft.specs.declared.Received.the-variants as D
 use Rattle.ft.specs.declared.Reaction.{Reaction}
 use Rattle.ft.specs.declared.Reaction.the-variants as A
-use Rattle.provide.specs.declared.ProviderAnswer.{ProviderAnswer}
-use Rattle.provide.specs.Requests.{stepped, onSc, onAck, onOurs, onRequest, onRequested, provideAdmitted, provide, isRefusal}
+use Rattle.requests.specs.declared.ProviderAnswer.{ProviderAnswer}
+use Rattle.requests.specs.declared.ProviderAnswer.the-variants.{Running, Complete, Deactivated, FileRejected, Refused, Err}
+use Rattle.provide.specs.Requests.{stepped, answeredWith, onSc, onAck, onOurs, onRequest, onRequested, provideAdmitted, provide, isRefusal}
 use Rattle.provide.specs.declared.Provider.{Provider}
 use Rattle.provide.specs.declared.ProviderStep.{ProviderStep}
 
@@ -37,13 +38,22 @@ module _ (p : Provider) where
   other : (s : ProviderStep) → isRefusal (s .answer) ≡ false → Keeps s
   other = C.other _ _
 
+  -- an answer keeps the record, or is no refusal
+  answer-keeps : (a : ProviderAnswer) → Keeps (answeredWith p a)
+  answer-keeps (Running r) = same _
+  answer-keeps Complete = other _ refl
+  answer-keeps (Deactivated q) = other _ refl
+  answer-keeps (FileRejected q) = other _ refl
+  answer-keeps (Refused cause mirror) = other _ refl
+  answer-keeps (Err e) = same _
+
   sc-keeps : (nos : Nos) (q : Scq) → Keeps (onSc p nos q)
   unfolding onSc
-  sc-keeps nos q = either _ _ _ (same _) (either _ _ _ (same _) (either _ _ _ (same _) (either _ _ _ (same _) (other _ refl))))
+  sc-keeps nos q = answer-keeps _
 
   ack-keeps : (nos : Nos) (q : Afq) → Keeps (onAck p nos q)
   unfolding onAck
-  ack-keeps nos q = either _ _ _ (same _) (either _ _ _ (same _) (either _ _ _ (other _ refl) (other _ refl)))
+  ack-keeps nos q = answer-keeps _
 
   ours-keep : (f : Frame) → Keeps (onOurs p f)
   ours-keep (F.FileReady ioa nof lof frq) = same _

@@ -18,8 +18,8 @@ use Rattle.ft.specs.declared.AsduResult.the-variants as A
 use Rattle.sections.specs.Sections.{sectionOctets, segments, segmentOctets, segmentStart}
 use Rattle.provide.specs.Record.{fileAgrees}
 use Rattle.provide.specs.declared.Provider.{Provider}
-use Rattle.provide.specs.declared.Reply.{Reply}
-use Rattle.provide.specs.declared.Reply.the-variants.{Nothing, FileReady, SectionReady, Section, FileClose}
+use Rattle.requests.specs.declared.Reply.{Reply}
+use Rattle.requests.specs.declared.Reply.the-variants.{Nothing, FileReady, SectionReady, Section, FileClose}
 use Rattle.provide.specs.declared.CountResult.{CountResult}
 use Rattle.provide.specs.declared.CountResult.the-variants as C
 use Rattle.provide.specs.declared.FrameResult.{FrameResult}

@@ -1,10 +1,9 @@
 -- What a Provider makes of a received frame (document 01, The Provider's record; IEC 60870-5-101, 7.4.11).
-use Prim.Native.Nat.{ℕ, _+_}
+use Prim.Native.Nat.{ℕ}
 use mathlib.Core.Bool.{Bool, true, false}
 use mathlib.Core.List.{List}
-use lib.Dec.{eqb, ltb}
+use lib.Dec.{eqb}
 use Rattle.laws.specs.When.{when, unless, _and_}
-use Rattle.asdu.specs.Codes.{«SELECT_FILE», «REQUEST_FILE», «SELECT_SECTION», «REQUEST_SECTION», «FILE_POSITIVE», «SECTION_POSITIVE», «SECTION_NEGATIVE»}
 use Rattle.asdu.specs.declared.Nos.{Nos}
 use Rattle.asdu.specs.declared.Scq.{Scq}
 use Rattle.asdu.specs.declared.Afq.{Afq}
@@ -25,10 +24,11 @@ use Rattle.sections.specs.Sections.{sectionCount}
 use Rattle.provide.specs.Record.{fileAgrees, ended, counted}
 use Rattle.provide.specs.declared.Provider.{Provider}
 use Rattle.provide.specs.declared.ProviderStep.{ProviderStep}
-use Rattle.provide.specs.declared.Reply.{Reply}
-use Rattle.provide.specs.declared.Reply.the-variants.{Nothing, FileReady, SectionReady, Section, FileClose}
-use Rattle.provide.specs.declared.ProviderAnswer.{ProviderAnswer}
-use Rattle.provide.specs.declared.ProviderAnswer.the-variants.{Running, Complete, Deactivated, FileRejected, Refused, Err}
+use Rattle.requests.specs.Answers.{isOver, scAnswer, ackAnswer}
+use Rattle.requests.specs.declared.Reply.{Reply}
+use Rattle.requests.specs.declared.Reply.the-variants.{Nothing}
+use Rattle.requests.specs.declared.ProviderAnswer.{ProviderAnswer}
+use Rattle.requests.specs.declared.ProviderAnswer.the-variants.{Running, Complete, Deactivated, FileRejected, Refused, Err}
 
 abbrev pub stepped : Provider → ProviderAnswer → ProviderStep
 stepped p a = record { provider = p; answer = a }
@@ -36,26 +36,20 @@ stepped p a = record { provider = p; answer = a }
 abbrev pub replying : Provider → Reply → ProviderStep
 replying p r = stepped p (Running r)
 
--- a request, by the action of SCQ; one that is not listed ends the transfer
+-- an answer beside the record, which is ended where the transfer is over with it
+abbrev pub endedIf : Bool → Provider → Provider
+endedIf false p = p
+endedIf true p = ended p
+
+abbrev pub answeredWith : Provider → ProviderAnswer → ProviderStep
+answeredWith p a = stepped (endedIf (isOver a) p) a
+
+-- a request, and an acknowledgement of a section or of the file
 unfoldable pub onSc : Provider → Nos → Scq → ProviderStep
-onSc p nos q =
-    when (eqb (q .action) «SELECT_FILE») (replying p FileReady)
-    (when (eqb (q .action) «REQUEST_FILE») (replying p (SectionReady (record { value = 1 })))
-    (when (eqb (q .action) «SELECT_SECTION») (replying p (SectionReady nos))
-    (when (eqb (q .action) «REQUEST_SECTION») (replying p (Section nos))
-    (stepped (ended p) (Deactivated q)))))
+onSc p nos q = answeredWith p (scAnswer nos q)
 
--- after a positive acknowledgement of section `nos`: the next one (of 0: the first), or, of the last or beyond, the file's close under that name
-unfoldable pub afterSection : Provider → Nos → Reply
-afterSection p nos = when (ltb (nos .value) (sectionCount (p .length))) (SectionReady (record { value = nos .value + 1 })) (FileClose nos)
-
--- an acknowledgement, by the action of AFQ; one that is not listed ends the transfer
 unfoldable pub onAck : Provider → Nos → Afq → ProviderStep
-onAck p nos q =
-    when (eqb (q .action) «SECTION_POSITIVE») (replying p (afterSection p nos))
-    (when (eqb (q .action) «SECTION_NEGATIVE») (replying p (Section nos))
-    (when (eqb (q .action) «FILE_POSITIVE») (stepped (ended p) Complete)
-    (stepped (ended p) (FileRejected q))))
+onAck p nos q = answeredWith p (ackAnswer (sectionCount (p .length)) nos q)
 
 -- whether a request is for this object address and file
 unfoldable pub isOurs : Provider → Frame → Bool

@@ -4,14 +4,11 @@ mod frames; // the frames of a reply, by their index
 mod record; // the Provider's record, its making and its agreement with the lent file
 mod request; // what a Provider makes of a received frame
 
-use asdu::Afq;
-use asdu::Cause;
 use asdu::FtError;
 use asdu::Nof;
-use asdu::Nos;
-use asdu::Scq;
 use frame::Frame;
 use ft::FileTransferProcedure;
+use requests::ProviderAnswer;
 
 // The record of one file's transfer.
 pub struct Provider {
@@ -37,26 +34,7 @@ pub enum ProviderResult {
     Err(FtError),
 }
 
-// What a Provider sends: its frames are counted, and each is made when it is asked for by its index.
-pub enum Reply {
-    Nothing,
-    FileReady,
-    SectionReady(Nos),
-    // A section's segments and its close.
-    Section(Nos),
-    FileClose(Nos),
-}
-
-// Where a Provider stands after a frame.
-pub enum ProviderAnswer {
-    Running(Reply),
-    Complete,
-    Deactivated { scq: Scq },
-    FileRejected { afq: Afq },
-    Refused { cause: Cause, mirror: bool },
-    Err(FtError),
-}
-
+// The record after a frame, and where the Provider stands.
 pub struct ProviderStep {
     pub provider: Provider,
     pub answer: ProviderAnswer,

@@ -1,105 +1,54 @@
 // What a Provider makes of a received frame (IEC 60870-5-101, 7.4.11): the requests and
 // acknowledgements of its own file are answered, one for another file is counted.
 use crate::Provider;
-use crate::ProviderAnswer;
 use crate::ProviderStep;
-use crate::Reply;
 use asdu::Afq;
-use asdu::Cause;
 use asdu::FtError;
 use asdu::Header;
 use asdu::Nos;
-use asdu::Scq;
 use asdu::UnknownField;
 use frame::Frame;
 use frame::SomeNof;
 use frame::answer;
 use ft::Reaction;
 use ft::Received;
+use requests::ProviderAnswer;
+use requests::Reply;
 ghost use mathlib.Core.Path.{_≡_};
-ghost use Rattle.provide.specs.Record.{ended};
-ghost use Rattle.provide.specs.Requests.{stepped, replying, onSc, afterSection, onAck, isOurs, onOurs, onRequest, onRequested, provideAdmitted, provide};
-ghost use Rattle.provide.specs.declared.Reply.the-variants.{Nothing};
-ghost use Rattle.provide.specs.declared.ProviderAnswer.the-variants.{Refused, Err};
+ghost use Rattle.provide.specs.Requests.{replying, answeredWith, onAck, isOurs, onOurs, onRequest, onRequested, provideAdmitted, provide};
+ghost use Rattle.requests.specs.declared.Reply.the-variants.{Nothing};
 
 impl Provider {
-    // The transfer goes on, with this to send.
-    fn reply(self, reply: Reply) -> ProviderStep
-        ensures { λ r. ⌜ r ≡ replying self reply ⌝ }
-    {
-        ProviderStep {
-            provider: self,
-            answer: ProviderAnswer::Running(reply),
-        }
-    }
-
+    // The transfer goes on, and nothing is sent.
     fn nothing(self) -> ProviderStep
         ensures { λ r. ⌜ r ≡ replying self Nothing ⌝ }
     {
-        self.reply(Reply::Nothing)
-    }
-
-    // The transfer is over, with this answer.
-    fn end(self, answer: ProviderAnswer) -> ProviderStep
-        ensures { λ r. ⌜ r ≡ stepped (ended self) answer ⌝ }
-    {
-        let provider = self.ended();
-        ProviderStep { provider, answer }
-    }
-
-    fn refused(self, cause: Cause, mirror: bool) -> ProviderStep
-        ensures { λ r. ⌜ r ≡ stepped (ended self) (Refused cause mirror) ⌝ }
-    {
-        self.end(ProviderAnswer::Refused { cause, mirror })
-    }
-
-    // A numbered refusal keeps the record.
-    fn failed(self, error: FtError) -> ProviderStep
-        ensures { λ r. ⌜ r ≡ stepped self (Err error) ⌝ }
-    {
         ProviderStep {
             provider: self,
-            answer: ProviderAnswer::Err(error),
+            answer: ProviderAnswer::Running(Reply::Nothing),
         }
     }
 
-    // A request, by the action of SCQ (7.2.6.30). One that asks for neither file nor section ends the
-    // transfer: a deactivation, a deletion, and the call of a directory, which is not the Provider's.
-    fn on_sc(self, nos: Nos, scq: Scq) -> ProviderStep
-        ensures { λ r. ⌜ r ≡ onSc self nos scq ⌝ }
+    // An answer beside the record, which is ended where the transfer is over with it.
+    fn answered(self, answer: ProviderAnswer) -> ProviderStep
+        ensures { λ r. ⌜ r ≡ answeredWith self answer ⌝ }
     {
-        let action = scq.action;
-        match action {
-            Scq::SELECT_FILE => self.reply(Reply::FileReady),
-            Scq::REQUEST_FILE => self.reply(Reply::SectionReady(Nos { value: 1 })),
-            Scq::SELECT_SECTION => self.reply(Reply::SectionReady(nos)),
-            Scq::REQUEST_SECTION => self.reply(Reply::Section(nos)),
-            _ => self.end(ProviderAnswer::Deactivated { scq }),
+        if answer.is_over() {
+            let provider = self.ended();
+            return ProviderStep { provider, answer };
+        }
+        ProviderStep {
+            provider: self,
+            answer,
         }
     }
 
-    // After a positive acknowledgement of section `nos`: the next section, or the file's close.
-    fn after_section(self, nos: Nos) -> Reply
-        ensures { λ r. ⌜ r ≡ afterSection self nos ⌝ }
-    {
-        let name = nos.value;
-        if (name as usize) < sections::section_count(self.length) {
-            return Reply::SectionReady(Nos { value: name + 1 });
-        }
-        Reply::FileClose(nos)
-    }
-
-    // An acknowledgement, by the action of AFQ (7.2.6.32).
+    // An acknowledgement: whether a section follows goes by how many the file has.
     fn on_ack(self, nos: Nos, afq: Afq) -> ProviderStep
         ensures { λ r. ⌜ r ≡ onAck self nos afq ⌝ }
     {
-        let action = afq.action;
-        match action {
-            Afq::SECTION_POSITIVE => self.reply(self.after_section(nos)),
-            Afq::SECTION_NEGATIVE => self.reply(Reply::Section(nos)),
-            Afq::FILE_POSITIVE => self.end(ProviderAnswer::Complete),
-            _ => self.end(ProviderAnswer::FileRejected { afq }),
-        }
+        let sections = sections::section_count(self.length) as u8;
+        self.answered(requests::on_ack(sections, nos, afq))
     }
 
     // Whether a request is for this object address and file.
@@ -118,7 +67,7 @@ impl Provider {
         ensures { λ r. ⌜ r ≡ onOurs self frame ⌝ }
     {
         match frame {
-            Frame::Sc { nos, scq, .. } => self.on_sc(nos, scq),
+            Frame::Sc { nos, scq, .. } => self.answered(requests::on_sc(nos, scq)),
             Frame::Ack { nos, afq, .. } => self.on_ack(nos, afq),
             Frame::FileReady { .. } => self.nothing(),
             Frame::SectionReady { .. } => self.nothing(),
@@ -155,10 +104,12 @@ impl Provider {
         match reaction {
             Reaction::Requested => self.on_requested(received),
             Reaction::Answered => self.nothing(),
-            Reaction::Refused { cause, mirror } => self.refused(cause, mirror),
+            Reaction::Refused { cause, mirror } => {
+                self.answered(ProviderAnswer::Refused { cause, mirror })
+            }
             Reaction::Discard(_) => self.nothing(),
             Reaction::Other => self.nothing(),
-            Reaction::Err(error) => self.failed(error),
+            Reaction::Err(error) => self.answered(ProviderAnswer::Err(error)),
         }
     }
 
@@ -176,7 +127,7 @@ impl Provider {
     {
         let procedure = self.procedure;
         if !self.agrees(file) {
-            return self.failed(FtError::RecordMismatch);
+            return self.answered(ProviderAnswer::Err(FtError::RecordMismatch));
         }
         if self.done {
             return self.nothing();

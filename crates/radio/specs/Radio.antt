@@ -6,8 +6,8 @@ use lib.Dec.{ltb}
 use lib.ListN.{length}
 use Rattle.laws.specs.When.{when, _and_}
 use Rattle.sections.specs.Sections.{sectionOctets}
-use Rattle.provide.specs.declared.Reply.{Reply}
-use Rattle.provide.specs.declared.ProviderAnswer.{ProviderAnswer}
+use Rattle.requests.specs.declared.Reply.{Reply}
+use Rattle.requests.specs.declared.ProviderAnswer.{ProviderAnswer}
 use Rattle.exchange.specs.Exchange.{isSection, isSending}
 use Rattle.exchange.specs.Damaging.{namings}
 use Rattle.radio.specs.declared.Radio.{Radio}

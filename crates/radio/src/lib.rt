@@ -1,8 +1,8 @@
 // The radio of a script (document 01, A transfer script): no segment is lost, and the k-th naming of a
 // section raises the first octet of its k-th sending by 1 modulo 256. A section's sendings follow each
 // other, the damaged ones first. What is damaged is lent as a list of section numbers.
-use provide::ProviderAnswer;
-use provide::Reply;
+use requests::ProviderAnswer;
+use requests::Reply;
 ghost use mathlib.Core.Path.{_≡_};
 ghost use lib.Dec.{eqb, ltb};
 ghost use Rattle.laws.specs.When.{when};

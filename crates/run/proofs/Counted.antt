@@ -15,8 +15,8 @@ use Rattle.asdu.specs.declared.FtError.the-variants as E
 use Rattle.provide.specs.Record.{fileAgrees}
 use Rattle.provide.specs.Replies.{segmentCount, countOf, only, sectionFrame, frameAt, replyCount, replyFrame}
 use Rattle.provide.specs.declared.Provider.{Provider}
-use Rattle.provide.specs.declared.Reply.{Reply}
-use Rattle.provide.specs.declared.Reply.the-variants.{Nothing, FileReady, SectionReady, Section, FileClose}
+use Rattle.requests.specs.declared.Reply.{Reply}
+use Rattle.requests.specs.declared.Reply.the-variants.{Nothing, FileReady, SectionReady, Section, FileClose}
 use Rattle.provide.specs.declared.FrameResult.{FrameResult}
 use Rattle.receive.specs.declared.Receiver.{Receiver}
 use Rattle.twoparty.specs.Party.{fromReply, first, nextFrame}

@@ -20,12 +20,12 @@ use Rattle.sections.specs.Sections.{segments}
 use Rattle.provide.specs.declared.Provider.{Provider}
 use Rattle.provide.specs.Requests.{provide}
 use Rattle.provide.specs.declared.ProviderStep.{ProviderStep}
-use Rattle.provide.specs.declared.ProviderAnswer.{ProviderAnswer}
-use Rattle.provide.specs.declared.ProviderAnswer.the-variants as PA
+use Rattle.requests.specs.declared.ProviderAnswer.{ProviderAnswer}
+use Rattle.requests.specs.declared.ProviderAnswer.the-variants as PA
 use Rattle.provide.specs.declared.FrameResult.{FrameResult}
 use Rattle.provide.specs.declared.FrameResult.the-variants as F
-use Rattle.provide.specs.declared.Reply.{Reply}
-use Rattle.provide.specs.declared.Reply.the-variants.{Nothing, FileReady, SectionReady, Section, FileClose}
+use Rattle.requests.specs.declared.Reply.{Reply}
+use Rattle.requests.specs.declared.Reply.the-variants.{Nothing, FileReady, SectionReady, Section, FileClose}
 use Rattle.provide.proofs.Indexed.{count-is, replies-agree}
 use Rattle.receive.specs.Record.{storeAgrees, awaited, started}
 use Rattle.receive.specs.Answers.{Outcome, receive, sends, toSend}

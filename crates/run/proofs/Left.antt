@@ -10,7 +10,7 @@ use Rattle.frame.specs.declared.Frame.{Frame}
 use Rattle.provide.specs.Record.{fileAgrees}
 use Rattle.provide.specs.Replies.{replyFrame}
 use Rattle.provide.specs.declared.Provider.{Provider}
-use Rattle.provide.specs.declared.Reply.{Reply}
+use Rattle.requests.specs.declared.Reply.{Reply}
 use Rattle.provide.specs.declared.FrameResult.the-variants as F
 use Rattle.receive.specs.declared.Receiver.{Receiver}
 use Rattle.radio.specs.declared.Radio.{Radio}

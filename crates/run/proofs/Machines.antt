@@ -37,8 +37,10 @@ use Rattle.ft.specs.declared.Received.the-variants as D
 use Rattle.ft.specs.declared.Reaction.{Reaction}
 use Rattle.ft.specs.declared.Reaction.the-variants as A
 use Rattle.provide.specs.Record.{fileAgrees, ended, counted}
-use Rattle.provide.specs.Requests.{onSc, onAck, onOurs, onRequest, onRequested, provideAdmitted, provide}
+use Rattle.provide.specs.Requests.{answeredWith, onSc, onAck, onOurs, onRequest, onRequested, provideAdmitted, provide}
 use Rattle.provide.specs.declared.Provider.{Provider}
+use Rattle.requests.specs.declared.ProviderAnswer.{ProviderAnswer}
+use Rattle.requests.specs.declared.ProviderAnswer.the-variants as PA
 use Rattle.provide.specs.declared.ProviderStep.{ProviderStep}
 use Rattle.acceptance.specs.Closed.{sectionClosed, fileClosed}
 use Rattle.acceptance.specs.declared.SectionClosed.{SectionClosed}
@@ -60,13 +62,21 @@ module _ {B : Type 0} (g : Provider → B) (p : Provider) (over : g (ended p) �
   kept : (s : ProviderStep) → g (s .provider) ≡ g p → Same s
   kept s e = record { same = e }
 
+  answer-same : (a : ProviderAnswer) → Same (answeredWith p a)
+  answer-same (PA.Running r) = kept _ refl
+  answer-same PA.Complete = kept _ over
+  answer-same (PA.Deactivated q) = kept _ over
+  answer-same (PA.FileRejected q) = kept _ over
+  answer-same (PA.Refused cause mirror) = kept _ over
+  answer-same (PA.Err e) = kept _ refl
+
   sc-same : (nos : Nos) (q : Scq) → Same (onSc p nos q)
   unfolding onSc
-  sc-same nos q = either Same _ _ _ (kept _ refl) (either Same _ _ _ (kept _ refl) (either Same _ _ _ (kept _ refl) (either Same _ _ _ (kept _ refl) (kept _ over))))
+  sc-same nos q = answer-same _
 
   ack-same : (nos : Nos) (q : Afq) → Same (onAck p nos q)
   unfolding onAck
-  ack-same nos q = either Same _ _ _ (kept _ refl) (either Same _ _ _ (kept _ refl) (either Same _ _ _ (kept _ over) (kept _ over)))
+  ack-same nos q = answer-same _
 
   ours-same : (f : Frame) → Same (onOurs p f)
   ours-same (F.FileReady ioa nof lof frq) = kept _ refl

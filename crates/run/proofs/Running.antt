@@ -17,7 +17,7 @@ use Rattle.ft.specs.declared.AsduResult.{AsduResult}
 use Rattle.ft.specs.declared.AsduResult.the-variants as A
 use Rattle.sections.specs.Sections.{sectionLength, sectionCount}
 use Rattle.provide.specs.Record.{freshProvider, providerMade}
-use Rattle.provide.specs.declared.ProviderAnswer.{ProviderAnswer}
+use Rattle.requests.specs.declared.ProviderAnswer.{ProviderAnswer}
 use Rattle.provide.specs.declared.ProviderResult.the-variants as PM
 use Rattle.provide.specs.declared.Provider.{Provider}
 use Rattle.provide.proofs.Making.{made, made-agrees}

@@ -5,7 +5,7 @@ use mathlib.Core.List.{List, [], _∷_, _++_, map, append-nil}
 use lib.ListN.{length, length-map}
 use Rattle.laws.specs.When.{when}
 use Rattle.sections.specs.Sections.{sectionCount}
-use Rattle.provide.specs.declared.ProviderAnswer.{ProviderAnswer}
+use Rattle.requests.specs.declared.ProviderAnswer.{ProviderAnswer}
 use Rattle.sections.proofs.SectionLaws.{few-sections}
 use Rattle.receive.specs.declared.ReceiverAnswer.{ReceiverAnswer}
 use Rattle.exchange.specs.Exchange.{Passing, Noise, Exchange, run, ownHeaders}

@@ -12,7 +12,7 @@ use Rattle.provide.specs.Record.{fileAgrees}
 use Rattle.provide.specs.Replies.{Packet, bare, fileReady, replies, replyFrame}
 use Rattle.provide.specs.declared.Provider.{Provider}
 use Rattle.provide.specs.declared.FrameResult.the-variants as F
-use Rattle.provide.specs.declared.Reply.{Reply}
+use Rattle.requests.specs.declared.Reply.{Reply}
 use Rattle.provide.proofs.Indexed.{replies-agree}
 use Rattle.receive.specs.Record.{awaited}
 use Rattle.receive.specs.declared.Receiver.{Receiver}

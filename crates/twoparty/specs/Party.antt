@@ -15,11 +15,11 @@ use Rattle.provide.specs.Record.{providerMade, fileAgrees}
 use Rattle.provide.specs.Replies.{replyFrame}
 use Rattle.provide.specs.declared.Provider.{Provider}
 use Rattle.provide.specs.declared.ProviderStep.{ProviderStep}
-use Rattle.provide.specs.declared.ProviderAnswer.{ProviderAnswer}
-use Rattle.provide.specs.declared.ProviderAnswer.the-variants as P
+use Rattle.requests.specs.declared.ProviderAnswer.{ProviderAnswer}
+use Rattle.requests.specs.declared.ProviderAnswer.the-variants as P
 use Rattle.provide.specs.declared.ProviderResult.{ProviderResult}
 use Rattle.provide.specs.declared.ProviderResult.the-variants as PM
-use Rattle.provide.specs.declared.Reply.{Reply}
+use Rattle.requests.specs.declared.Reply.{Reply}
 use Rattle.provide.specs.declared.FrameResult.{FrameResult}
 use Rattle.provide.specs.declared.FrameResult.the-variants as F
 use Rattle.receive.specs.Record.{receiverMade, storeAgrees, awaited, started}

@@ -10,9 +10,9 @@ use exchange::Sender;
 use frame::Frame;
 use ft::Role;
 use provide::Provider;
-use provide::Reply;
 use radio::Radio;
 use receive::Receiver;
+use requests::Reply;
 pub use step::replied;
 
 // What a run is given beside file, damage and store.

@@ -11,7 +11,7 @@ on-asdu-spec =
     (tie.spec
     (λ c κs. search needs)
     (λ c κs. search needs)
-    (λ c. simp (whens, nay-by-not (c .before .before .agrees .ensures) (c .before .if1 .taken), ← (c .failed .ensures)))
+    (λ c. simp (whens, nay-by-not (c .before .before .agrees .ensures) (c .before .if1 .taken), ← (c .answered .ensures)))
     (λ c κs. search needs)
     (λ c.
     simp (
