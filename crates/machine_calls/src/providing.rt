@@ -2,6 +2,7 @@
 use crate::kept;
 use crate::kept::PARTY_PROVIDER;
 use crate::kept::PROVIDER;
+use asdu::Nos;
 use provide::CountResult;
 use provide::FrameResult;
 use provide::Part;
@@ -21,6 +22,7 @@ use words::Octets;
 use words::put;
 use words::read;
 use words::text;
+use words::u8_at;
 use words::u32_at;
 use words::write;
 
@@ -159,6 +161,17 @@ fn on_asdu(regs: &mut Numbers, file: &[u8], args: &Numbers, octets: &[u8]) {
     stepped(regs, provider.on_asdu(file, header, unknown, came, octets));
 }
 
+// The decision alone, on a request or an acknowledgement.
+fn decided(which: u8, args: &Numbers) {
+    let first = u8_at(args, 0, 0);
+    let second = u8_at(args, 0, 1);
+    if which == 18 {
+        answered(requests::on_sc(Nos { value: first }, make::scq(args, 1)));
+    } else {
+        answered(requests::on_ack(first, Nos { value: second }, make::afq(args, 2)));
+    }
+}
+
 // Sets the field at this place, or takes other places' numbers.
 fn set(which: u8, regs: &mut Numbers, number: u64) {
     match which {
@@ -196,7 +209,9 @@ provider reply_frame:Y8
 provider reply_payload:Y8
 provider part:88
 provider new:42
-provider on_asdu:11f12uRb",
+provider on_asdu:11f12uRb
+requests on_sc:111
+requests on_ack:1111",
         args,
         octets,
     );
@@ -208,6 +223,7 @@ provider on_asdu:11f12uRb",
         0..=7 => set(which, regs, number),
         16 => new(regs, file, args),
         17 => on_asdu(regs, file, args, given),
+        18..=19 => decided(which, args),
         _ => answer(which, regs, file, args),
     }
     true
