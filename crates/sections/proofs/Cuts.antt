@@ -3,7 +3,7 @@ use mathlib.Core.Path.{_≡_, ap}
 use mathlib.Core.Bool.{Bool, true, false}
 use mathlib.Core.List.{List, [], _∷_}
 use Prim.Native.Nat.{ℕ, zero, suc, _+_, _-_, _*_, _≤_, min}
-use native.Mathlib.Nat.{zero-min, suc-min-suc, add-sub-cancel-left, min-le-left, mul-le-mul, lt-of-le-of-lt, lt-of-mul-lt-mul-right, div-zero}
+use native.Mathlib.Nat.{zero-min, suc-min-suc, add-sub-cancel-left, le-max-left, min-le-left, mul-le-mul, lt-of-le-of-lt, lt-of-mul-lt-mul-right, div-zero}
 use native.Mathlib.Omega.{arith}
 use lib.Dec.{eqb, lit<}
 use lib.ListN.{length, take, drop, length-take, length-drop}
@@ -14,7 +14,7 @@ use Rattle.laws.specs.When.{when}
 use Rattle.laws.proofs.Decide.{whens}
 use Rattle.lists.specs.Parts.{divCeil}
 use Rattle.lists.proofs.Parts.{ceil-least}
-use Rattle.sections.specs.Sections.{sectionOctets, segmentOctets}
+use Rattle.sections.specs.Sections.{sectionLength, sectionOctets, segmentOctets}
 
 -- ---- products of 32 bits
 
@@ -37,6 +37,11 @@ ceil-most a zero = rw ceil-none (omega arith)
 ceil-most a (suc b) =
     let l = ceil-least a (suc b) (omega arith) in
     omega (arith, lt-of-mul-lt-mul-right (suc b) {m = divCeil a (suc b)} {n = a + 1} (omega arith))
+
+-- a file's section length is at least 4,096
+pub length-least : (n : ℕ) → 4096 ≤ sectionLength n
+unfolding sectionLength
+length-least n = le-max-left 4096 (divCeil n 255)
 
 -- ---- parts
 

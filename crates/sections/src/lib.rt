@@ -1,11 +1,11 @@
 // How a file is cut: sections that count from 1 (IEC 60870-5-101, 7.2.6.34), and segments that a frame
 // can carry (document 01, The Provider's record). Lengths and counts go by the numbers alone; a part is
-// handed out of the lent octets, and none is copied. The types of the parameters are so narrow that no
-// sum and no product overflows.
+// handed out of the lent octets, and none is copied. The types of the public parameters are so narrow that
+// no sum and no product overflows.
 use asdu::Nos;
 use counts::least;
 ghost use mathlib.Core.Path.{_≡_};
-ghost use Prim.Native.Nat.{_*_};
+ghost use Prim.Native.Nat.{_+_, _*_, _≤_, _<_};
 ghost use lib.ListN.{take, drop};
 ghost use Rattle.lists.specs.Parts.{divCeil};
 ghost use Rattle.sections.specs.Sections.{sectionLength, sectionCount, sectionOctets, segmentOctets, segmentStart};
@@ -14,23 +14,21 @@ ghost use Rattle.sections.specs.Sections.{sectionLength, sectionCount, s
 pub const DEFAULT_SECTION_LEN: u32 = 4096;
 
 // The most sections that a NOS can name.
-const MAX_SECTIONS: u32 = 255;
+const MAX_SECTIONS: usize = 255;
 
-// How many parts of a size a length has, the last perhaps shorter; none where a part is empty.
-fn div_ceil(length: u32, size: u32) -> usize
+// How many parts of a size a length has, the last perhaps shorter.
+fn div_ceil(length: usize, size: usize) -> usize
+    requires { ⌜ (0 < size) × (length + size ≤ 0x1FFFFFFFF) ⌝ }
     ensures { λ r. ⌜ r ≡ divCeil length size ⌝ }
 {
-    if size == 0 {
-        return 0;
-    }
-    (length as usize + (size as usize - 1)) / size as usize
+    (length + (size - 1)) / size
 }
 
 // A section's octets in a file of this length: 4,096, or more where a NOS could not name all sections.
 pub fn section_length(length: u32) -> u32
     ensures { λ r. ⌜ r ≡ sectionLength length ⌝ }
 {
-    let fitted = div_ceil(length, MAX_SECTIONS) as u32;
+    let fitted = div_ceil(length as usize, MAX_SECTIONS) as u32;
     if fitted < DEFAULT_SECTION_LEN {
         return DEFAULT_SECTION_LEN;
     }
@@ -41,19 +39,23 @@ pub fn section_length(length: u32) -> u32
 pub fn section_count(length: u32) -> usize
     ensures { λ r. ⌜ r ≡ sectionCount length ⌝ }
 {
-    let size = section_length(length);
-    let count = div_ceil(length, size);
+    let size = section_length(length) as usize;
+    let count = div_ceil(length as usize, size);
     if count < 1 {
         return 1;
     }
     count
 }
 
-// How many segments a section of this length has, where a segment can hold `limit` octets.
+// How many segments a section of this length has, where a segment can hold `limit` octets; none where it
+// can hold none.
 pub fn segment_count(length: u32, limit: u8) -> usize
     ensures { λ r. ⌜ r ≡ divCeil length limit ⌝ }
 {
-    div_ceil(length, limit as u32)
+    if limit == 0 {
+        return 0;
+    }
+    div_ceil(length as usize, limit as usize)
 }
 
 // Where segment `index` of section `nos` begins in the file.
@@ -79,26 +81,27 @@ pub fn cut(octets: &[u8], at: usize, length: usize) -> &[u8]
 }
 
 // The part of this size at an index from 0; empty past the end.
-fn part(octets: &[u8], size: u32, index: u32) -> &[u8]
+fn part(octets: &[u8], size: usize, index: usize) -> &[u8]
+    requires { ⌜ (size ≤ 0xFFFFFFFF) × (index ≤ 0xFFFFFFFF) ⌝ }
     ensures { λ r. ⌜ now r ≡ take size (drop (index * size) (now (octets .entry))) ⌝ }
 {
-    cut(octets, index as usize * size as usize, size as usize)
+    cut(octets, index * size, size)
 }
 
 // Section `nos` where a section has `size` octets; 0 and any past the end are empty.
 pub fn section(file: &[u8], size: u32, nos: Nos) -> &[u8]
     ensures { λ r. ⌜ now r ≡ sectionOctets size (now (file .entry)) (nos .value) ⌝ }
 {
-    let name = nos.value as u32;
+    let name = nos.value as usize;
     if name == 0 {
         return part(file, 0, 0);
     }
-    part(file, size, name - 1)
+    part(file, size as usize, name - 1)
 }
 
 // Segment `index` of a section, where a segment can hold `limit` octets; empty past the end.
 pub fn segment(section: &[u8], limit: u8, index: u32) -> &[u8]
     ensures { λ r. ⌜ now r ≡ segmentOctets limit (now (section .entry)) index ⌝ }
 {
-    part(section, limit as u32, index)
+    part(section, limit as usize, index as usize)
 }

@@ -1,6 +1,7 @@
 use borrow.Author.Needs.{needs}
 use native.Mathlib.Omega.{arith}
 use Rattle.sections.specs.Sections.{sectionCount}
+use Rattle.sections.proofs.Cuts.{length-least}
 use Rattle.sections.proofs.section_count.Statement.{statement}
 use Rattle.sections.proofs.section_count.Tie as tie
 
@@ -10,6 +11,7 @@ section-count-spec =
     tie.close
     (tie.spec
     (λ c κs. search needs)
-    (λ c κs. search needs)
+    (λ c. search needs)
+    (λ c κs. let least = length-least (c .before .args .length) in (omega arith, search needs))
     (λ c. simp (← (c .before .before .section-length .ensures), ← (c .before .div-ceil .ensures)) (omega arith))
     (λ c. simp (← (c .before .before .section-length .ensures), ← (c .before .div-ceil .ensures)) (omega arith)))
