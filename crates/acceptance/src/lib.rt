@@ -3,9 +3,6 @@
 // lent: the accepted octets first, then those of the section under way.
 use asdu::Chs;
 ghost use mathlib.Core.Path.{_≡_};
-ghost use Prim.Native.Nat.{_-_, _≤_};
-ghost use lib.ListN.{length, take, drop};
-ghost use Rattle.checksum.specs.Checksum.{checksum};
 ghost use Rattle.acceptance.specs.Closed.{sectionClosed, fileClosed};
 
 // How many octets of the store are accepted, and how many after them are under way.
@@ -27,36 +24,17 @@ pub enum FileClosed {
     Differs { expected: Chs, held: Held },
 }
 
-// The first octets of a store, as many as there are.
-fn front(store: &[u8], count: usize) -> &[u8]
-    ensures { λ r. ⌜ now r ≡ take count (now (store .entry)) ⌝ }
-{
-    if count <= store.len() {
-        return &store[0..count];
-    }
-    store
-}
-
-// The sum of the store's octets between two places.
-fn sum_between(store: &[u8], from: usize, to: usize) -> Chs
-    requires { ⌜ (from ≤ to) × (to ≤ length (now store)) ⌝ }
-    ensures { λ r. ⌜ r .value ≡ checksum (take (to - from) (drop from (now (store .entry)))) ⌝ }
-{
-    checksum::checksum(&store[from..to])
-}
-
 // A section's close: it is accepted where the store holds it and its sum is the stated one, else dropped.
 pub fn close_section(held: Held, store: &[u8], chs: Chs) -> SectionClosed
     ensures { λ r. ⌜ r ≡ sectionClosed held (now (store .entry)) chs ⌝ }
 {
     let kept = held.kept;
     let staged = held.staged;
+    let sum = checksum::checksum(sections::cut(store, kept, staged));
     if store::is_held(kept, staged, store.len()) {
-        let all = kept + staged;
-        let sum = sum_between(store, kept, all);
         if sum.value == chs.value {
             return SectionClosed::Accepted(Held {
-                kept: all,
+                kept: kept + staged,
                 staged: 0,
             });
         }
@@ -71,7 +49,7 @@ pub fn close_file(held: Held, store: &[u8], chs: Chs) -> FileClosed
 {
     let kept = held.kept;
     let staged = held.staged;
-    let expected = checksum::checksum(front(store, kept));
+    let expected = checksum::checksum(sections::cut(store, 0, kept));
     let held = Held { kept, staged: 0 };
     if store::is_held(kept, staged, store.len()) {
         if expected.value == chs.value {

@@ -19,7 +19,7 @@ close-file-spec =
     simp (
       whens,
       yes (i .before .is-held .ensures) (i .if1 .taken),
-      ← (k .before .front .ensures),
+      ← (k .before .cut .ensures),
       ← (k .checksum .ensures),
       eq-eqb _ _ (c .if2 .taken),
     ))
@@ -29,10 +29,10 @@ close-file-spec =
     simp (
       whens,
       yes (i .before .is-held .ensures) (i .if1 .taken),
-      ← (k .before .front .ensures),
+      ← (k .before .cut .ensures),
       ← (k .checksum .ensures),
       ne-eqb _ _ (c .if2 .left),
     ))
     (λ c.
     let k = c .before .before in
-    simp (whens, nay (c .before .is-held .ensures) (c .if1 .left), ← (k .before .front .ensures), ← (k .checksum .ensures))))
+    simp (whens, nay (c .before .is-held .ensures) (c .if1 .left), ← (k .before .cut .ensures), ← (k .checksum .ensures))))

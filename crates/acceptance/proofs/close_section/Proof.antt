@@ -1,10 +1,9 @@
 use Prim.Native.Nat.{ℕ, _+_, _≤_}
-use mathlib.Core.Path.{_≡_, sym, _∙_}
+use mathlib.Core.Path.{_≡_}
 use mathlib.Core.Bool.{Bool, true}
 use mathlib.Core.List.{List}
 use lib.Dec.{leb}
 use lib.ListN.{length}
-use native.Mathlib.Nat.{add-sub-cancel-left}
 use Rattle.laws.proofs.Decide.{whens, yes, nay}
 use borrow.Author.Needs.{needs}
 use borrow.Author.Tests.{eq-eqb, ne-eqb, leb-true}
@@ -22,23 +21,31 @@ close-section-spec =
     tie.close
     (tie.spec
     (λ c κs. search needs)
-    (λ c. let a = c .before .before .before .args in let h = held (a .held .kept) (a .held .staged) (a .store .now) _ (c .before .is-held .ensures) (c .if1 .taken) in search needs)
-    (λ c κs. let a = c .before .before .before .args in let h = held (a .held .kept) (a .held .staged) (a .store .now) _ (c .before .is-held .ensures) (c .if1 .taken) in search needs)
+    (λ c κs. search needs)
+    (λ c κs. search needs)
     (λ c.
-    let s = c .before .before .before in
-    let i = s .before in
+    let i = c .before .before .before in
+    let a = i .before .before .before .before .before .args in
+    let h = held (a .held .kept) (a .held .staged) (a .store .now) _ (i .before .is-held .ensures) (i .if1 .taken) in
+    search needs)
+    (λ c.
+    let i = c .before .before .before in
+    let k = i .before .before in
     simp (
       whens,
       yes (i .before .is-held .ensures) (i .if1 .taken),
-      eq-eqb _ _ (sym (simp add-sub-cancel-left at (s .sum-between .ensures)) ∙ c .if2 .taken),
+      ← (k .before .cut .ensures),
+      ← (k .checksum .ensures),
+      eq-eqb _ _ (c .if2 .taken),
     ))
     (λ c.
-    let s = c .before .before .before in
-    let i = s .before in
+    let i = c .before .before .before in
+    let k = i .before .before in
     simp (
       whens,
       yes (i .before .is-held .ensures) (i .if1 .taken),
-      ← (simp add-sub-cancel-left at (s .sum-between .ensures)),
+      ← (k .before .cut .ensures),
+      ← (k .checksum .ensures),
       ne-eqb _ _ (c .if2 .left),
     ))
     (λ c. simp (whens, nay (c .before .is-held .ensures) (c .if1 .left))))
