@@ -28,13 +28,13 @@ underWay h store = take (h .staged) (drop (h .kept) store)
 abbrev pub isHeld : Held → List ℕ → Bool
 isHeld h store = leb (h .kept + h .staged) (length store)
 
--- a section's close: an equal sum accepts the section, another drops it
+-- a section's close: an equal sum accepts a section that the store holds; else it is dropped
 unfoldable pub sectionClosed : Held → List ℕ → Chs → SectionClosed
 sectionClosed h store chs =
     when (isHeld h store and eqb (checksum (underWay h store)) (chs .value)) (Accepted (holds (h .kept + h .staged) 0))
     (Dropped (holds (h .kept) 0))
 
--- the file's close: the sum of the accepted octets only; a section under way is dropped, and the accepted count stays
+-- the file's close: whole where the accepted octets, and no others, have the stated sum; a section under way is dropped, and the accepted count stays
 unfoldable pub fileClosed : Held → List ℕ → Chs → FileClosed
 fileClosed h store chs =
     when (isHeld h store and eqb (checksum (accepted h store)) (chs .value)) (Whole (holds (h .kept) 0))

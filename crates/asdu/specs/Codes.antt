@@ -49,6 +49,9 @@ abbrev pub «REQUEST_SECTION» : ℕ
 abbrev pub «FILE_POSITIVE» : ℕ
 «FILE_POSITIVE» = 1
 
+abbrev pub «FILE_NEGATIVE» : ℕ
+«FILE_NEGATIVE» = 2
+
 abbrev pub «SECTION_POSITIVE» : ℕ
 «SECTION_POSITIVE» = 3
 

@@ -4,6 +4,7 @@ use mathlib.Core.Bool.{Bool, true, false}
 use mathlib.Core.List.{List, [], _∷_, _++_, map}
 use lib.Dec.{eqb}
 use Rattle.laws.specs.When.{when}
+use Rattle.asdu.specs.Codes.{«F_SG_NA_1»}
 use Rattle.asdu.specs.declared.Header.{Header}
 use Rattle.asdu.specs.declared.UnknownField.the-variants as U
 use Rattle.frame.specs.declared.Frame.{Frame}
@@ -99,14 +100,14 @@ sendingsLeft false radio = radio
 -- the payloads of the segments among frames
 abbrev pub payloads : List Packet → List (List ℕ)
 payloads [] = []
-payloads (x ∷ xs) = when (eqb (typeOf (x .frame)) 125) (x .payload ∷ payloads xs) (payloads xs)
+payloads (x ∷ xs) = when (eqb (typeOf (x .frame)) «F_SG_NA_1») (x .payload ∷ payloads xs) (payloads xs)
 
 -- the Provider's frames on their way: the segments meet their fates, and where none is said they and all other frames are untouched
 abbrev pub flown : List Fate → List Packet → List Passing
 flown fates [] = []
 flown [] (x ∷ xs) = untouched byProvider x ∷ flown [] xs
 flown (f ∷ fates) (x ∷ xs) =
-    when (eqb (typeOf (x .frame)) 125) (record { sender = byProvider; packet = x; fate = f } ∷ flown fates xs)
+    when (eqb (typeOf (x .frame)) «F_SG_NA_1») (record { sender = byProvider; packet = x; fate = f } ∷ flown fates xs)
     (untouched byProvider x ∷ flown (f ∷ fates) xs)
 
 -- what the Provider sends, on its way

@@ -6,6 +6,7 @@ use mathlib.Core.List.{List, [], _∷_, _++_}
 use lib.Dec.{eqb}
 use lib.ListN.{drop}
 use Rattle.laws.specs.When.{when, _and_}
+use Rattle.asdu.specs.Codes.{«REQUEST_SECTION», «SECTION_NEGATIVE»}
 use Rattle.asdu.specs.declared.UnknownField.the-variants as U
 use Rattle.frame.specs.declared.Frame.{Frame}
 use Rattle.frame.specs.declared.Frame.the-variants as F
@@ -25,9 +26,9 @@ use Rattle.exchange.specs.Lines.{namedSection}
 abbrev pub asksSending : Frame → Bool
 asksSending (F.FileReady ioa nof lof frq) = false
 asksSending (F.SectionReady ioa nof nos lof srq) = false
-asksSending (F.Sc ioa nof nos scq) = eqb (scq .action) 6
+asksSending (F.Sc ioa nof nos scq) = eqb (scq .action) «REQUEST_SECTION»
 asksSending (F.LastSection ioa nof nos lsq chs) = false
-asksSending (F.Ack ioa nof nos afq) = eqb (afq .action) 4
+asksSending (F.Ack ioa nof nos afq) = eqb (afq .action) «SECTION_NEGATIVE»
 asksSending (F.Segment ioa nof nos los) = false
 asksSending (F.Directory ioa cause) = false
 asksSending (F.QueryLog ioa nof start stop) = false

@@ -7,6 +7,7 @@ use mathlib.Core.List.{List, [], _∷_, map}
 use lib.Dec.{eqb}
 use lib.ListN.{length}
 use Rattle.laws.specs.When.{_and_, _or_}
+use Rattle.asdu.specs.Codes.{«FILE_POSITIVE»}
 use Rattle.asdu.specs.declared.Nof.{Nof}
 use Rattle.asdu.specs.declared.Header.{Header}
 use Rattle.asdu.specs.declared.UnknownField.{UnknownField}
@@ -40,7 +41,7 @@ acceptsFile object name (F.FileReady ioa nof lof frq) = false
 acceptsFile object name (F.SectionReady ioa nof nos lof srq) = false
 acceptsFile object name (F.Sc ioa nof nos scq) = false
 acceptsFile object name (F.LastSection ioa nof nos lsq chs) = false
-acceptsFile object name (F.Ack ioa nof nos afq) = eqb (afq .action) 1 and sameFile object name ioa nof
+acceptsFile object name (F.Ack ioa nof nos afq) = eqb (afq .action) «FILE_POSITIVE» and sameFile object name ioa nof
 acceptsFile object name (F.Segment ioa nof nos los) = false
 acceptsFile object name (F.Directory ioa cause) = false
 acceptsFile object name (F.QueryLog ioa nof start stop) = false

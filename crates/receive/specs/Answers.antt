@@ -5,6 +5,7 @@ use mathlib.Core.List.{List}
 use lib.Dec.{eqb, leb}
 use lib.ListN.{length}
 use Rattle.laws.specs.When.{when, unless, _or_}
+use Rattle.asdu.specs.Codes.{«REQUEST_FILE», «REQUEST_SECTION», «FILE_POSITIVE», «FILE_NEGATIVE», «SECTION_POSITIVE», «SECTION_NEGATIVE»}
 use Rattle.asdu.specs.declared.Nos.{Nos}
 use Rattle.asdu.specs.declared.Lof.{Lof}
 use Rattle.asdu.specs.declared.Frq.{Frq}
@@ -47,29 +48,29 @@ asks r s = stepped (awaiting r s) Send
 -- the file is ready, or it is not; its length is recorded
 unfoldable pub onFileReady : Receiver → Lof → Frq → ReceiverStep
 onFileReady r lof frq =
-    when (frq .«negative_confirm») (stepped (ended r) (FileNotReady frq)) (asks (stating r (lof .value)) (Request 2 (record { value = 0 })))
+    when (frq .«negative_confirm») (stepped (ended r) (FileNotReady frq)) (asks (stating r (lof .value)) (Request «REQUEST_FILE» (record { value = 0 })))
 
 -- a section is ready, or it is not; one under way is dropped
 unfoldable pub onSectionReady : Receiver → Nos → Srq → ReceiverStep
 onSectionReady r nos srq =
-    when (srq .«not_ready») (stepped (ended r) (SectionNotReady nos srq)) (asks (holding r (r .kept) 0) (Request 6 nos))
+    when (srq .«not_ready») (stepped (ended r) (SectionNotReady nos srq)) (asks (holding r (r .kept) 0) (Request «REQUEST_SECTION» nos))
 
 -- a section's close: one that is accepted is acknowledged positively, one that is dropped negatively
 abbrev pub afterSectionClose : Receiver → Nos → SectionClosed → ReceiverStep
-afterSectionClose r nos (Accepted h) = asks (holding r (h .kept) (h .staged)) (Acknowledgement 3 nos)
-afterSectionClose r nos (Dropped h) = asks (holding r (h .kept) (h .staged)) (Acknowledgement 4 nos)
+afterSectionClose r nos (Accepted h) = asks (holding r (h .kept) (h .staged)) (Acknowledgement «SECTION_POSITIVE» nos)
+afterSectionClose r nos (Dropped h) = asks (holding r (h .kept) (h .staged)) (Acknowledgement «SECTION_NEGATIVE» nos)
 
 unfoldable pub onSectionClose : Receiver → List ℕ → Nos → Chs → ReceiverStep
 onSectionClose r store nos chs = afterSectionClose r nos (sectionClosed (heldBy r) store chs)
 
--- the transfer is over, with this held and acknowledged
+-- the transfer is over: with this held, and this acknowledgement sent
 abbrev pub closing : Receiver → Held → Sent → Receiver
 closing r h ack = ended (awaiting (holding r (h .kept) (h .staged)) ack)
 
 -- the file's close: a whole file is acknowledged positively, one whose sum differs negatively
 abbrev pub afterFileClose : Receiver → Nos → Chs → FileClosed → ReceiverStep
-afterFileClose r nos chs (Whole h) = stepped (closing r h (Acknowledgement 1 nos)) (Complete (h .kept))
-afterFileClose r nos chs (Differs expected h) = stepped (closing r h (Acknowledgement 2 nos)) (FileChecksum expected chs)
+afterFileClose r nos chs (Whole h) = stepped (closing r h (Acknowledgement «FILE_POSITIVE» nos)) (Complete (h .kept))
+afterFileClose r nos chs (Differs expected h) = stepped (closing r h (Acknowledgement «FILE_NEGATIVE» nos)) (FileChecksum expected chs)
 
 unfoldable pub onFileClose : Receiver → List ℕ → Nos → Chs → ReceiverStep
 onFileClose r store nos chs = afterFileClose r nos chs (fileClosed (heldBy r) store chs)

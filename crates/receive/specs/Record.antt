@@ -6,6 +6,7 @@ use lib.Dec.{leb}
 use lib.ListN.{length}
 use Rattle.laws.specs.When.{unless, _and_}
 use Rattle.asdu.specs.Sizes.{sizesRight, maxIoa}
+use Rattle.asdu.specs.Codes.{«SELECT_FILE»}
 use Rattle.asdu.specs.declared.Nof.{Nof}
 use Rattle.asdu.specs.declared.Nos.{Nos}
 use Rattle.asdu.specs.declared.FtError.the-variants as E
@@ -92,14 +93,14 @@ acknowledge r action nos = F.Ack (r .ioa) (r .nof) nos (record { action = action
 
 -- the select that opens the transfer, as what is sent and as a frame
 abbrev pub opening : Sent
-opening = S.Request 1 (record { value = 0 })
+opening = S.Request «SELECT_FILE» (record { value = 0 })
 
 abbrev pub select : Receiver → Frame
-select r = request r 1 (record { value = 0 })
+select r = request r «SELECT_FILE» (record { value = 0 })
 
 -- the frame of what was sent of a file; where nothing was, the select: an offered file ready opens the transfer as an answer to it would
 abbrev pub frameOf : ℕ → Nof → Sent → Frame
-frameOf ioa nof S.Nothing = F.Sc ioa nof (record { value = 0 }) (record { action = 1; error = 0 })
+frameOf ioa nof S.Nothing = F.Sc ioa nof (record { value = 0 }) (record { action = «SELECT_FILE»; error = 0 })
 frameOf ioa nof (S.Request action nos) = F.Sc ioa nof nos (record { action = action; error = 0 })
 frameOf ioa nof (S.Acknowledgement action nos) = F.Ack ioa nof nos (record { action = action; error = 0 })
 
