@@ -1,7 +1,7 @@
 -- The Receiver's record: its making, when it and a lent store agree, and the requests and acknowledgements that it sends (document 01, The Receiver's record).
 use Prim.Native.Nat.{ℕ, _+_, min}
 use mathlib.Core.Bool.{Bool, true, false}
-use mathlib.Core.List.{List, [], _++_}
+use mathlib.Core.List.{List, []}
 use lib.Dec.{leb}
 use lib.ListN.{length}
 use Rattle.laws.specs.When.{unless, _and_}
