@@ -191,13 +191,14 @@ pub fn answers_type(sent: Frame, answered: Frame) -> bool
     }
 }
 
-// Whether a frame answers the one sent: the same object address, a kind that answers it, the same name
-// of file where both have one, and the same name of section where the request named one.
+// Whether a frame answers the one sent, field by field as the standard lays them out: a type
+// identification (7.2.1.1) that answers it, the same object address (7.2.5), the same name of file
+// (7.2.6.33) where both have one, and the same name of section (7.2.6.34) where the request named one.
 pub fn answers(sent: Frame, answered: Frame) -> bool
     ensures { λ r. ⌜ r ≡ answersTo sent answered ⌝ }
 {
-    if sent.ioa() == answered.ioa() {
-        if answers_type(sent, answered) {
+    if answers_type(sent, answered) {
+        if sent.ioa() == answered.ioa() {
             return names_agree(sent, answered);
         }
     }

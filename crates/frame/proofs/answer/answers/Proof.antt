@@ -1,9 +1,17 @@
+use mathlib.Core.Path.{_≡_, refl}
+use mathlib.Core.Bool.{Bool, false}
+use Rattle.laws.specs.When.{when}
+use Rattle.laws.proofs.Choices.{either}
 use Rattle.laws.proofs.Decide.{whens, yes, nay}
 use borrow.Author.Needs.{needs}
 use borrow.Author.Tests.{eq-eqb, ne-eqb}
 use Rattle.frame.specs.Answers.{answersTo}
 use Rattle.frame.proofs.answer.answers.Statement.{statement}
 use Rattle.frame.proofs.answer.answers.Tie as tie
+
+-- the definition tests the object address first: where the kind is wrong, that test no longer matters
+no-match : (b : Bool) → when b false false ≡ false
+no-match b = either (λ r. r ≡ false) b false false refl refl
 
 pub answers-spec : {M : Type 1} → statement M
 unfolding answersTo
@@ -17,18 +25,11 @@ answers-spec =
     (λ c.
     simp (
       whens,
-      yes (c .before .before .answers-type .ensures) (c .before .if2 .taken),
-      eq-eqb _ _ (c .before .before .before .if1 .taken),
+      eq-eqb _ _ (c .before .if2 .taken),
+      yes (c .before .before .before .before .before .answers-type .ensures) (c .before .before .before .before .if1 .taken),
       ← (c .names-agree .ensures),
-      ← (c .before .before .before .before .ioa2 .ensures),
-      ← (c .before .before .before .before .before .ioa .ensures),
+      ← (c .before .before .ioa2 .ensures),
+      ← (c .before .before .before .ioa .ensures),
     ))
-    (λ c.
-    simp (
-      whens,
-      nay (c .before .answers-type .ensures) (c .if2 .left),
-      eq-eqb _ _ (c .before .before .if1 .taken),
-      ← (c .before .before .before .ioa2 .ensures),
-      ← (c .before .before .before .before .ioa .ensures),
-    ))
-    (λ c. simp (whens, ne-eqb _ _ (c .if1 .left), ← (c .before .ioa2 .ensures), ← (c .before .before .ioa .ensures))))
+    (λ c. simp (whens, ne-eqb _ _ (c .if2 .left), ← (c .before .ioa2 .ensures), ← (c .before .before .ioa .ensures)))
+    (λ c. simp (whens, nay (c .before .answers-type .ensures) (c .if1 .left), no-match)))
