@@ -9,7 +9,7 @@ use Rattle.frame.specs.Answers.{answersTo}
 use Rattle.frame.proofs.answer.answers.Statement.{statement}
 use Rattle.frame.proofs.answer.answers.Tie as tie
 
--- the definition tests the object address first: where the kind is wrong, that test no longer matters
+-- where the type does not answer, the definition's test of the object address before it chooses between false and false
 no-match : (b : Bool) → when b false false ≡ false
 no-match b = either (λ r. r ≡ false) b false false refl refl
 
