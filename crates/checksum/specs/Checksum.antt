@@ -12,8 +12,13 @@ unfoldable pub octetSum : List ℕ → ℕ
 octetSum [] = 0
 octetSum (x ∷ xs) = x + octetSum xs
 
-unfoldable pub checksum : List ℕ → ℕ
-checksum octets = octetSum octets % 256
+-- the sum after these octets, from the sum so far
+unfoldable pub sumAfter : ℕ → List ℕ → ℕ
+sumAfter sum octets = (sum + octetSum octets) % 256
+
+-- of whole octets, from 0
+abbrev pub checksum : List ℕ → ℕ
+checksum octets = sumAfter 0 octets
 
 -- a stated sum that differs from the octets' is 8, with both
 unfoldable pub checksumChecked : List ℕ → Chs → ChecksumResult

@@ -2,7 +2,7 @@
 use asdu::Chs;
 use asdu::FtError;
 ghost use mathlib.Core.Path.{_≡_};
-ghost use Rattle.checksum.specs.Checksum.{checksum, checksumChecked};
+ghost use Rattle.checksum.specs.Checksum.{sumAfter, checksumChecked};
 
 // What comparing a stated sum with the octets' answers: 8 comes with both.
 pub enum ChecksumResult {
@@ -14,11 +14,12 @@ pub enum ChecksumResult {
     },
 }
 
-// The octet sum modulo 256.
-pub fn checksum(octets: &[u8]) -> Chs
-    ensures { λ r. ⌜ r .value ≡ checksum (now (octets .entry)) ⌝ }
+// The sum after the octets, modulo 256, from the sum so far. Whole octets begin with 0; memory that is read
+// in banks goes on with the sum after the bank before.
+pub fn checksum(octets: &[u8], so_far: Chs) -> Chs
+    ensures { λ r. ⌜ r .value ≡ sumAfter («so_far» .value) (now (octets .entry)) ⌝ }
 {
-    let mut sum: u8 = 0;
+    let mut sum = so_far.value;
     let mut i = 0;
     while i < octets.len() {
         sum = std::num::wrapping_add_u8(sum, octets[i]);
@@ -31,7 +32,7 @@ pub fn checksum(octets: &[u8]) -> Chs
 pub fn check_checksum(octets: &[u8], stated: Chs) -> ChecksumResult
     ensures { λ r. ⌜ r ≡ checksumChecked (now (octets .entry)) stated ⌝ }
 {
-    let expected = checksum(octets);
+    let expected = checksum(octets, Chs { value: 0 });
     if expected.value == stated.value {
         return ChecksumResult::Ok;
     }

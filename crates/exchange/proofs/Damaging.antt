@@ -7,7 +7,7 @@ use native.Mathlib.Omega.{arith}
 use lib.ListN.{length, replicate}
 use Rattle.lists.specs.Parts.{joined}
 use Rattle.lists.proofs.Parts.{Fit, length-parts, joined-all, fit-all}
-use Rattle.checksum.specs.Checksum.{octetSum, checksum}
+use Rattle.checksum.specs.Checksum.{octetSum, sumAfter, checksum}
 use Rattle.sections.specs.Sections.{sectionLength, sectionCount, sections, segments}
 use Rattle.exchange.specs.Transfer.{FatesOf, arrived, AllDamaged, Damaged, DamagedThenIntact}
 use Rattle.exchange.specs.Damaging.{raised, unhurt, hurt, namings, scriptRadio, Nameable}
@@ -29,14 +29,14 @@ sending-hurt [] = tt
 sending-hurt (o ∷ os) = (length-raised o, sending-unhurt os)
 
 -- one octet raised changes the sum
-sum-differs : (x t : ℕ) → ((x + 1) % 256 + t) % 256 ≢ (x + t) % 256
-sum-differs x t e = omega arith
+sum-differs : (s x t : ℕ) → (s + ((x + 1) % 256 + t)) % 256 ≢ (s + (x + t)) % 256
+sum-differs s x t e = omega arith
 
 hurt-differs : (limit : ℕ) (os : List (List ℕ)) → Fit limit os → 0 < length (joined os) → checksum (arrived (hurt os)) ≢ checksum (joined os)
-unfolding checksum octetSum
+unfolding sumAfter octetSum
 hurt-differs limit [] fit some = absurd (omega arith)
 hurt-differs limit ([] ∷ os) fit some = absurd (omega (arith, fit .0))
-hurt-differs limit ((x ∷ o) ∷ os) fit some = rw (arrived-unhurt os) (sum-differs x (octetSum (o ++ joined os)))
+hurt-differs limit ((x ∷ o) ∷ os) fit some = rw (arrived-unhurt os) (sum-differs 0 x (octetSum (o ++ joined os)))
 
 module _ (limit : ℕ) (pos : 0 < limit) where
   -- a raised first octet is a damaged sending

@@ -2,12 +2,13 @@
 // slices, and is proved and total like every public entry. A slice is two arguments, its address and its
 // length.
 use asdu::AddressSizes;
+use asdu::Chs;
 use asdu::Nof;
 use ft::Role;
 use run::RunResult;
 use twoparty::Settings;
 ghost use mathlib.Core.Path.{_≡_};
-ghost use Rattle.checksum.specs.Checksum.{checksum};
+ghost use Rattle.checksum.specs.Checksum.{sumAfter};
 ghost use Rattle.exports.specs.Exported.{roleOf, settingsOf, runOf, endNumber, endFrames};
 
 // What a run answers whose budget is spent: no refusal has this number.
@@ -69,12 +70,12 @@ fn end_frames(result: RunResult) -> usize
     }
 }
 
-// The octet sum modulo 256.
+// The sum after the octets, modulo 256, from the sum so far, which is 0 before the first of them.
 #[no_mangle]
-pub extern "C" fn saqwinku_checksum(octets: &[u8]) -> u8
-    ensures { λ r. ⌜ r ≡ checksum (now (octets .entry)) ⌝ }
+pub extern "C" fn saqwinku_checksum(octets: &[u8], so_far: u8) -> u8
+    ensures { λ r. ⌜ r ≡ sumAfter «so_far» (now (octets .entry)) ⌝ }
 {
-    checksum::checksum(octets).value
+    checksum::checksum(octets, Chs { value: so_far }).value
 }
 
 // A two-party run with the Provider controlling, or controlled: 0 where it is whole, 255 where its budget is

@@ -1,7 +1,9 @@
 // Calls of `replay` (docs/REPLAY.md) on the buffers, and on the scripts that are read into them.
+use asdu::Chs;
 use script::Outline;
 use script::ScriptResult;
 use station_calls::kept;
+use values::make;
 use words::Numbers;
 use words::Octets;
 use words::at;
@@ -22,11 +24,16 @@ fn part(octets: &[u8], from: u64, count: u64) -> &[u8] {
     text::front(octets, 0)
 }
 
+// The sum after octets, from a sum so far.
+fn sum_after(octets: &[u8], so_far: Chs) {
+    write::one(checksum::checksum(octets, so_far).value as u64);
+}
+
 fn of_buffer(which: u8, octets: &[u8], args: &Numbers) {
-    if which == 1 {
-        write::octets(part(octets, args[0], args[1]));
-    } else {
-        write::one(checksum::checksum(octets).value as u64);
+    match which {
+        1 => write::octets(part(octets, args[0], args[1])),
+        2 => sum_after(octets, Chs { value: 0 }),
+        _ => sum_after(part(octets, args[1], args[2]), make::chs(args, 0)),
     }
 }
 
@@ -212,7 +219,8 @@ pub fn call(
         line,
         b"file is:o
 file octets:88
-file sum",
+file sum
+file sum_after:188",
         regs,
         kept::FILE,
         file,
@@ -223,7 +231,8 @@ file sum",
         line,
         b"store is:o
 store octets:88
-store sum",
+store sum
+store sum_after:188",
         regs,
         kept::STORE,
         store,
@@ -234,7 +243,8 @@ store sum",
         line,
         b"damage is:o
 damage octets:88
-damage sum",
+damage sum
+damage sum_after:188",
         regs,
         kept::DAMAGE,
         damage,

@@ -3,13 +3,13 @@ use mathlib.Core.Path.{refl}
 use Rattle.laws.specs.When.{when}
 use Rattle.lists.specs.Parts.{divCeil}
 use Rattle.asdu.specs.Sizes.{elementRoom, segmentLimit}
-use Rattle.checksum.specs.Checksum.{octetSum, checksum}
+use Rattle.checksum.specs.Checksum.{octetSum, sumAfter}
 use Rattle.sections.specs.Sections.{sectionLength, sectionCount, sections}
 use Rattle.provide.specs.Record.{providerMade}
 use Rattle.provide.specs.Table.{Written}
 
 pub table-theorem : Written
-unfolding sectionLength sectionCount sections divCeil providerMade when checksum octetSum segmentLimit elementRoom
+unfolding sectionLength sectionCount sections divCeil providerMade when sumAfter octetSum segmentLimit elementRoom
 table-theorem =
     record {
       empty = (refl, refl);

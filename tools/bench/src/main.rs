@@ -13,7 +13,7 @@ use std::hint::black_box;
 use std::time::Instant;
 
 unsafe extern "C" {
-    fn saqwinku_checksum(octets: *const u8, length: usize) -> u8;
+    fn saqwinku_checksum(octets: *const u8, length: usize, so_far: u8) -> u8;
     fn saqwinku_run(
         cause_octets: u8,
         common_address_octets: u8,
@@ -207,7 +207,7 @@ fn sums(length: usize, rounds: usize) {
     let octets = Case::new(length, false).file;
     let (at, n) = (octets.as_ptr(), octets.len());
     // Both read the n octets there.
-    let (mine, least) = (|| unsafe { saqwinku_checksum(at, n) }, || unsafe { floor_sum(at, n) });
+    let (mine, least) = (|| unsafe { saqwinku_checksum(at, n, 0) }, || unsafe { floor_sum(at, n) });
     assert_eq!(mine(), least());
     let times = (20_000_000 / length).max(1);
     let mut taken = [Vec::new(), Vec::new()];
