@@ -30,7 +30,7 @@ pub fn close_section(held: Held, store: &[u8], chs: Chs) -> SectionClosed
 {
     let kept = held.kept;
     let staged = held.staged;
-    let sum = checksum::checksum(sections::cut(store, kept, staged), Chs { value: 0 });
+    let sum = checksum::checksum(sections::cut(store, kept, staged), 0);
     if store::is_held(kept, staged, store.len()) {
         if sum.value == chs.value {
             return SectionClosed::Accepted(Held {
@@ -49,7 +49,7 @@ pub fn close_file(held: Held, store: &[u8], chs: Chs) -> FileClosed
 {
     let kept = held.kept;
     let staged = held.staged;
-    let expected = checksum::checksum(sections::cut(store, 0, kept), Chs { value: 0 });
+    let expected = checksum::checksum(sections::cut(store, 0, kept), 0);
     let held = Held { kept, staged: 0 };
     if store::is_held(kept, staged, store.len()) {
         if expected.value == chs.value {

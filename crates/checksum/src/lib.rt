@@ -16,10 +16,10 @@ pub enum ChecksumResult {
 
 // The sum after the octets, modulo 256, from the sum so far. Whole octets begin with 0; memory that is read
 // in banks goes on with the sum after the bank before.
-pub fn checksum(octets: &[u8], so_far: Chs) -> Chs
-    ensures { λ r. ⌜ r .value ≡ sumAfter («so_far» .value) (now (octets .entry)) ⌝ }
+pub fn checksum(octets: &[u8], so_far: u8) -> Chs
+    ensures { λ r. ⌜ r .value ≡ sumAfter «so_far» (now (octets .entry)) ⌝ }
 {
-    let mut sum = so_far.value;
+    let mut sum = so_far;
     let mut i = 0;
     while i < octets.len() {
         sum = std::num::wrapping_add_u8(sum, octets[i]);
@@ -32,7 +32,7 @@ pub fn checksum(octets: &[u8], so_far: Chs) -> Chs
 pub fn check_checksum(octets: &[u8], stated: Chs) -> ChecksumResult
     ensures { λ r. ⌜ r ≡ checksumChecked (now (octets .entry)) stated ⌝ }
 {
-    let expected = checksum(octets, Chs { value: 0 });
+    let expected = checksum(octets, 0);
     if expected.value == stated.value {
         return ChecksumResult::Ok;
     }

@@ -2,7 +2,6 @@
 // slices, and is proved and total like every public entry. A slice is two arguments, its address and its
 // length.
 use asdu::AddressSizes;
-use asdu::Chs;
 use asdu::Nof;
 use ft::Role;
 use run::RunResult;
@@ -75,7 +74,7 @@ fn end_frames(result: RunResult) -> usize
 pub extern "C" fn saqwinku_checksum(octets: &[u8], so_far: u8) -> u8
     ensures { λ r. ⌜ r ≡ sumAfter «so_far» (now (octets .entry)) ⌝ }
 {
-    checksum::checksum(octets, Chs { value: so_far }).value
+    checksum::checksum(octets, so_far).value
 }
 
 // A two-party run with the Provider controlling, or controlled: 0 where it is whole, 255 where its budget is

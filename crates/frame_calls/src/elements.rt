@@ -1,6 +1,5 @@
 // Calls of the elements, the widths, the packed entry, the header's causes and the checksum.
 use asdu::AddressSizes;
-use asdu::Chs;
 use asdu::Cp56Time2a;
 use asdu::DirectoryEntry;
 use asdu::EntryResult;
@@ -86,7 +85,7 @@ fn unknown_cause(args: &Numbers) {
 }
 
 fn sum(octets: &[u8]) {
-    write::one(checksum::checksum(octets, Chs { value: 0 }).value as u64);
+    write::one(checksum::checksum(octets, 0).value as u64);
 }
 
 fn check_sum(args: &Numbers, octets: &[u8]) {

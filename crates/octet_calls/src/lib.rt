@@ -1,9 +1,7 @@
 // Calls of `replay` (docs/REPLAY.md) on the buffers, and on the scripts that are read into them.
-use asdu::Chs;
 use script::Outline;
 use script::ScriptResult;
 use station_calls::kept;
-use values::make;
 use words::Numbers;
 use words::Octets;
 use words::at;
@@ -11,6 +9,7 @@ use words::put;
 use words::put_octet;
 use words::read;
 use words::text;
+use words::u8_at;
 use words::write;
 
 // ---- One buffer
@@ -25,15 +24,15 @@ fn part(octets: &[u8], from: u64, count: u64) -> &[u8] {
 }
 
 // The sum after octets, from a sum so far.
-fn sum_after(octets: &[u8], so_far: Chs) {
+fn sum_after(octets: &[u8], so_far: u8) {
     write::one(checksum::checksum(octets, so_far).value as u64);
 }
 
 fn of_buffer(which: u8, octets: &[u8], args: &Numbers) {
     match which {
         1 => write::octets(part(octets, args[0], args[1])),
-        2 => sum_after(octets, Chs { value: 0 }),
-        _ => sum_after(part(octets, args[1], args[2]), make::chs(args, 0)),
+        2 => sum_after(octets, 0),
+        _ => sum_after(part(octets, args[1], args[2]), u8_at(args, 0, 0)),
     }
 }
 

@@ -6,7 +6,6 @@ use crate::FrameResult;
 use crate::Part;
 use crate::PartResult;
 use crate::Provider;
-use asdu::Chs;
 use asdu::Frq;
 use asdu::FtError;
 use asdu::Lof;
@@ -116,7 +115,7 @@ impl Provider {
         ensures { λ r. ⌜ r ≡ closeFrame self nos lsq (now (octets .entry)) ⌝ }
     {
         let nof = self.nof;
-        let chs = checksum::checksum(octets, Chs { value: 0 });
+        let chs = checksum::checksum(octets, 0);
         Frame::LastSection {
             ioa: self.ioa,
             nof,

@@ -11,10 +11,10 @@ use Rattle.checksum.proofs.checksum.Statement.{statement}
 use Rattle.checksum.proofs.checksum.Tie as tie
 
 abbrev Inv-loop : tie.InvT-loop
-Inv-loop octets sum₀ i₀ sum i = (i ≤ length octets) × (sum ≡ sumAfter sum₀ (take i octets))
+Inv-loop octets so-far sum₀ i₀ sum i = (i ≤ length octets) × (sum ≡ sumAfter so-far (take i octets))
 
 abbrev μ-loop : tie.MeasureT-loop
-μ-loop octets sum₀ i₀ sum i = length octets - i
+μ-loop octets so-far sum₀ i₀ sum i = length octets - i
 
 loop-holds : tie.Need-loop-holds Inv-loop μ-loop
 unfolding sumAfter octetSum
