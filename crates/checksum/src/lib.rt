@@ -14,8 +14,8 @@ pub enum ChecksumResult {
     },
 }
 
-// The sum after the octets, modulo 256, from the sum so far. Whole octets begin with 0; memory that is read
-// in banks goes on with the sum after the bank before.
+// The sum after the octets, modulo 256, from the sum so far (document 02, A6). Whole octets begin with 0;
+// memory that is read in banks goes on with the sum after the bank before.
 pub fn checksum(octets: &[u8], so_far: u8) -> Chs
     ensures { λ r. ⌜ r .value ≡ sumAfter «so_far» (now (octets .entry)) ⌝ }
 {
