@@ -12,11 +12,11 @@ unfoldable pub octetSum : List ℕ → ℕ
 octetSum [] = 0
 octetSum (x ∷ xs) = x + octetSum xs
 
--- the sum after these octets, from the sum so far
+-- the sum after these octets, from the sum so far (document 02, A6)
 unfoldable pub sumAfter : ℕ → List ℕ → ℕ
 sumAfter sum octets = (sum + octetSum octets) % 256
 
--- of whole octets, from 0
+-- the sum of whole octets: the same from 0
 abbrev pub checksum : List ℕ → ℕ
 checksum octets = sumAfter 0 octets
 
