@@ -24,7 +24,7 @@ use Rattle.frame.specs.Frames.{isFileType}
 use Rattle.frame.specs.Ranges.{valuesInRange}
 use Rattle.ft.specs.Directions.{otherRole}
 use Rattle.ft.specs.Procedure.{settled}
-use Rattle.ft.specs.Admission.{serves, frameAgrees, admitFrame, onAsdu}
+use Rattle.ft.specs.Admission.{serves, frameAgrees, admitFrame, admitKnown, onAsdu}
 use Rattle.ft.specs.declared.FileTransferProcedure.{FileTransferProcedure}
 use Rattle.ft.specs.declared.Received.the-variants as D
 use Rattle.ft.specs.declared.Reaction.the-variants.{Answered}
@@ -43,7 +43,7 @@ use Rattle.directory.specs.declared.DirectoryAnswer.the-variants.{Runnin
 page-heard : (p : FileTransferProcedure) (h : Header) (ioa i : ℕ) (beside : List ℕ) → Sound (p .sizes) (pageFrame ioa i) h → settled p ≡ true
     → pageAddress ioa i ≤ maxIoa (p .sizes) → valuesInRange (p .sizes) (pageFrame ioa i) beside ≡ true → serves p (otherRole (p .role)) false ≡ true
     → onAsdu p h U.Nothing (D.Frame (pageFrame ioa i)) beside ≡ Answered
-unfolding onAsdu isFileType isMirror admitFrame frameAgrees when
+unfolding onAsdu admitKnown isFileType isMirror admitFrame frameAgrees when
 page-heard p h ioa i beside sound right fits values direction =
     let below : h .«common_address» < maxCommonAddress (p .sizes) = sound .common in
     simp (

@@ -22,7 +22,7 @@ use Rattle.frame.specs.Ranges.{valuesInRange}
 use Rattle.frame.specs.Answers.{answersTo}
 use Rattle.ft.specs.Directions.{otherRole}
 use Rattle.ft.specs.Procedure.{settled}
-use Rattle.ft.specs.Admission.{serves, frameAgrees, admitFrame, onAsdu, matched, onAnswer}
+use Rattle.ft.specs.Admission.{serves, frameAgrees, admitFrame, admitKnown, onAsdu, matched, onAnswer}
 use Rattle.ft.specs.declared.Role.{Role}
 use Rattle.ft.specs.declared.Role.the-variants.{Controlling, Controlled}
 use Rattle.ft.specs.declared.FileTransferProcedure.{FileTransferProcedure}
@@ -62,7 +62,7 @@ file-type (F.QueryLog ioa nof start stop) = refl
 admits : (s o : FileTransferProcedure) (f : Frame) (h : Header) (beside : List ℕ) → Sound o f h → s .sizes ≡ o .sizes → settled s ≡ true
     → leb (ioaOf f) (maxIoa (s .sizes)) ≡ true → valuesInRange (s .sizes) f beside ≡ true → serves s (otherRole (s .role)) (receiverSide f) ≡ true
     → onAsdu s h U.Nothing (D.Frame f) beside ≡ when (receiverSide f) Requested Answered
-unfolding onAsdu isMirror admitFrame frameAgrees when
+unfolding onAsdu admitKnown isMirror admitFrame frameAgrees when
 admits s o f h beside sound same right within fits dir =
     let below : h .«common_address» < maxCommonAddress (s .sizes) = rw same (sound .common) in
     simp (

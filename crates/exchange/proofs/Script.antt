@@ -13,7 +13,7 @@ use Rattle.frame.specs.Answers.{calledSection, oneOf, fileAnswered, sectionAnsw
 use Rattle.checksum.specs.Checksum.{octetSum, sumAfter}
 use Rattle.ft.specs.Directions.{usesFunction}
 use Rattle.ft.specs.Procedure.{conventional, addressRight, settled, addressed}
-use Rattle.ft.specs.Admission.{serves, frameAgrees, admitFrame, onAsdu, matched, onAnswer}
+use Rattle.ft.specs.Admission.{serves, frameAgrees, admitFrame, admitKnown, onAsdu, matched, onAnswer}
 use Rattle.ft.specs.Building.{framed, built}
 use Rattle.ft.specs.declared.Role.the-variants.{Controlling, Controlled}
 use Rattle.sections.specs.Sections.{sectionLength, sectionCount, sections, sectionOctets, segments}
@@ -82,5 +82,5 @@ script-transferred = two-party-transfer script
 
 -- its output, line by line
 pub script-output : map lineOf (exchanged script 13 .passed) ≡ scriptLines
-unfolding script when divCeil scqInRange afqInRange losInRange isMirror within sizesRight headerLen maxIoa maxCommonAddress elementRoom segmentLimit scCause isFileType segmentInRange calledSection oneOf fileAnswered sectionAnswered scAnswered ackAnswered namesAgree answersTo octetSum sumAfter usesFunction addressRight settled serves frameAgrees admitFrame onAsdu matched onAnswer addressed framed built sectionLength sectionCount sections sectionOctets segments fileAgrees scAnswer onSc afterSection ackAnswer onAck isOurs onRequest provide storeAgrees written awaited started onFileReady onSectionReady sectionClosed onSectionClose fileClosed onFileClose onClose onSegment receive toSend
+unfolding script when divCeil scqInRange afqInRange losInRange isMirror within sizesRight headerLen maxIoa maxCommonAddress elementRoom segmentLimit scCause isFileType segmentInRange calledSection oneOf fileAnswered sectionAnswered scAnswered ackAnswered namesAgree answersTo octetSum sumAfter usesFunction addressRight settled serves frameAgrees admitFrame admitKnown onAsdu matched onAnswer addressed framed built sectionLength sectionCount sections sectionOctets segments fileAgrees scAnswer onSc afterSection ackAnswer onAck isOurs onRequest provide storeAgrees written awaited started onFileReady onSectionReady sectionClosed onSectionClose fileClosed onFileClose onClose onSegment receive toSend
 script-output = refl

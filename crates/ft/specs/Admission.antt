@@ -3,7 +3,7 @@ use Prim.Native.Nat.{ℕ}
 use mathlib.Core.Bool.{Bool, true, false}
 use mathlib.Core.List.{List}
 use lib.Dec.{eqb, leb}
-use Rattle.laws.specs.When.{when, unless, _and_}
+use Rattle.laws.specs.When.{when, unless, _and_, _or_}
 use Rattle.asdu.specs.Sizes.{maxIoa, maxCommonAddress}
 use Rattle.asdu.specs.Header.{isMirror, unspecifiedCause}
 use Rattle.asdu.specs.declared.AddressSizes.{AddressSizes}
@@ -11,7 +11,7 @@ use Rattle.asdu.specs.declared.Header.{Header}
 use Rattle.asdu.specs.declared.UnknownField.{UnknownField}
 use Rattle.asdu.specs.declared.UnknownField.the-variants.{Nothing, First}
 use Rattle.asdu.specs.declared.Unspecified.{Unspecified}
-use Rattle.asdu.specs.declared.Unspecified.the-variants.{TypeIdentification, CommonAddress}
+use Rattle.asdu.specs.declared.Unspecified.the-variants.{TypeIdentification, Cause, CommonAddress, InformationObjectAddress}
 use Rattle.asdu.specs.declared.Discard.the-variants as D
 use Rattle.asdu.specs.declared.FtError.the-variants as E
 use Rattle.frame.specs.declared.Frame.{Frame}
@@ -78,10 +78,24 @@ abbrev pub admitReceived : FileTransferProcedure → Header → Received → Lis
 admitReceived p h R.Undecodable beside = Err E.Undecodable
 admitReceived p h (R.Frame f) beside = admitFrame p h f beside
 
--- step 4: the first unknown field
-abbrev pub admitKnown : FileTransferProcedure → Header → UnknownField → Received → List ℕ → Reaction
-admitKnown p h (First which) received beside = unspecified (p .role) which
-admitKnown p h Nothing received beside = admitReceived p h received beside
+-- whether the common address is the one of all stations, the largest of its width
+abbrev pub isBroadcast : AddressSizes → Header → Bool
+isBroadcast z h = eqb (h .«common_address») (maxCommonAddress z)
+
+-- whether this field is the first that the station does not know: fields are alike where their causes are
+abbrev pub isFirst : UnknownField → Unspecified → Bool
+isFirst Nothing field = false
+isFirst (First which) field = eqb (unspecifiedCause which .value) (unspecifiedCause field .value)
+
+-- steps 3 and 4 in the order of causes 44 to 47, as document 02, A11, has them: type, cause, common address (broadcast or unknown), object address
+unfoldable pub admitKnown : FileTransferProcedure → Header → UnknownField → Received → List ℕ → Reaction
+admitKnown p h unknown received beside =
+    when (isFirst unknown TypeIdentification) (unspecified (p .role) TypeIdentification)
+    (when (isFirst unknown Cause) (unspecified (p .role) Cause)
+    (when (isBroadcast (p .sizes) h or isFirst unknown CommonAddress) (unspecified (p .role) CommonAddress)
+    (when (isFirst unknown InformationObjectAddress) (unspecified (p .role) InformationObjectAddress)
+    -- steps 5 to 7
+    (admitReceived p h received beside))))
 
 -- document 01's order, step by step
 unfoldable pub onAsdu : FileTransferProcedure → Header → UnknownField → Received → List ℕ → Reaction
@@ -93,10 +107,8 @@ onAsdu p h unknown received beside =
     (unless (isFileType (h .«type_id»)) Other
     -- step 2
     (when (isMirror h) (mirrored p h)
-    -- step 3
-    (when (eqb (h .«common_address») (maxCommonAddress (p .sizes))) (unspecified (p .role) CommonAddress)
-    -- step 4, and in it steps 5 to 7
-    (admitKnown p h unknown received beside)))))
+    -- steps 3 and 4, and behind them steps 5 to 7
+    (admitKnown p h unknown received beside))))
 
 -- a frame that does not answer the one sent is 23
 unfoldable pub matched : Frame → Frame → Reaction

@@ -16,7 +16,9 @@ use frame::Frame;
 use frame::answer;
 use frame::range;
 ghost use mathlib.Core.Path.{_≡_};
-ghost use Rattle.ft.specs.Admission.{serves, unspecified, mirrored, frameAgrees, unserved, admitFrame, admitReceived, admitKnown, onAsdu, matched, answered, onAnswer};
+ghost use Rattle.laws.specs.When.{_or_};
+ghost use Rattle.asdu.specs.declared.Unspecified.the-variants.{CommonAddress};
+ghost use Rattle.ft.specs.Admission.{serves, unspecified, mirrored, isBroadcast, isFirst, frameAgrees, unserved, admitFrame, admitReceived, admitKnown, onAsdu, matched, answered, onAnswer};
 
 // The answer to a field that the station does not know: a controlled station sends the mirror, a
 // controlling one discards.
@@ -29,6 +31,16 @@ fn unspecified(role: Role, which: Unspecified) -> Reaction
             mirror: true,
         },
         Role::Controlling => Reaction::Discard(Discard::Unspecified(which)),
+    }
+}
+
+// Whether this field is the first that the station does not know.
+fn is_first(unknown: UnknownField, field: Unspecified) -> bool
+    ensures { λ r. ⌜ r ≡ isFirst unknown field ⌝ }
+{
+    match unknown {
+        UnknownField::First(which) => which.cause().value == field.cause().value,
+        UnknownField::Nothing => false,
     }
 }
 
@@ -117,7 +129,19 @@ impl FileTransferProcedure {
         }
     }
 
-    // Steps 4 to 7.
+    // Whether the header's common address is broadcast or one that the station does not know.
+    fn is_address_unknown(self, header: Header, unknown: UnknownField) -> bool
+        ensures { λ r. ⌜ r ≡ (isBroadcast (self .sizes) header or isFirst unknown CommonAddress) ⌝ }
+    {
+        let broadcast = self.sizes.broadcast_common_address();
+        if header.common_address == broadcast {
+            return true;
+        }
+        is_first(unknown, Unspecified::CommonAddress)
+    }
+
+    // Steps 3 and 4 in the order of causes 44 to 47 (document 02, A11), then steps 5 to 7. Broadcast is
+    // no station's own address, so it counts as an unknown one.
     fn admit_known(
         self,
         header: Header,
@@ -128,10 +152,19 @@ impl FileTransferProcedure {
         ensures { λ r. ⌜ r ≡ admitKnown self header unknown received (now (beside .entry)) ⌝ }
     {
         let role = self.role;
-        match unknown {
-            UnknownField::First(which) => unspecified(role, which),
-            UnknownField::Nothing => self.admit_received(header, received, beside),
+        if is_first(unknown, Unspecified::TypeIdentification) {
+            return unspecified(role, Unspecified::TypeIdentification);
         }
+        if is_first(unknown, Unspecified::Cause) {
+            return unspecified(role, Unspecified::Cause);
+        }
+        if self.is_address_unknown(header, unknown) {
+            return unspecified(role, Unspecified::CommonAddress);
+        }
+        if is_first(unknown, Unspecified::InformationObjectAddress) {
+            return unspecified(role, Unspecified::InformationObjectAddress);
+        }
+        self.admit_received(header, received, beside)
     }
 
     // What a received frame means: 26 on settings that no making gives, 3 on a common address over its
@@ -145,12 +178,11 @@ impl FileTransferProcedure {
     ) -> Reaction
         ensures { λ r. ⌜ r ≡ onAsdu self header unknown received (now (beside .entry)) ⌝ }
     {
-        let role = self.role;
-        let broadcast = self.sizes.broadcast_common_address();
+        let widest = self.sizes.max_common_address();
         if !self.is_settled() {
             return Reaction::Err(FtError::RecordMismatch);
         }
-        if broadcast < header.common_address {
+        if widest < header.common_address {
             return Reaction::Err(FtError::AddressOutOfRange);
         }
         if !frame::is_file_type(header.type_id) {
@@ -158,9 +190,6 @@ impl FileTransferProcedure {
         }
         if headers::is_mirror(header) {
             return self.on_mirror(header);
-        }
-        if header.common_address == broadcast {
-            return unspecified(role, Unspecified::CommonAddress);
         }
         self.admit_known(header, unknown, received, beside)
     }

@@ -15,7 +15,7 @@ use Rattle.frame.specs.Frames.{isFileType}
 use Rattle.frame.specs.Answers.{calledSection, oneOf, fileAnswered, sectionAnswered, scAnswered, ackAnswered, namesAgree, answersTo}
 use Rattle.checksum.specs.Checksum.{octetSum, sumAfter}
 use Rattle.ft.specs.Procedure.{addressRight, settled, addressed}
-use Rattle.ft.specs.Admission.{serves, frameAgrees, admitFrame, onAsdu, matched, onAnswer}
+use Rattle.ft.specs.Admission.{serves, frameAgrees, admitFrame, admitKnown, onAsdu, matched, onAnswer}
 use Rattle.ft.specs.declared.Role.the-variants.{Controlling, Controlled}
 use Rattle.ft.specs.declared.Received.the-variants as D
 use Rattle.sections.specs.Sections.{sectionLength, sectionCount}
@@ -56,12 +56,12 @@ unlike test g f is fails e = let z : f ≡ g = cc in never (test g) fails (rw z 
 
 -- a forged AFQ 1: the Provider has completed, and the Receiver holds nothing
 pub forged-acceptance : FreedUnheld (worked 200 100 forgedAcceptance)
-unfolding worked when divCeil afqInRange isMirror within sizesRight maxIoa maxCommonAddress isFileType addressRight settled serves frameAgrees admitFrame onAsdu sectionLength fileAgrees ackAnswer onAck isOurs onRequest provide
+unfolding worked when divCeil afqInRange isMirror within sizesRight maxIoa maxCommonAddress isFileType addressRight settled serves frameAgrees admitFrame admitKnown onAsdu sectionLength fileAgrees ackAnswer onAck isOurs onRequest provide
 forged-acceptance = record { closes = (tt, tt); order = refl; kept = refl }
 
 -- a forged file close: both have completed, and the sums, 0 and 44, differ
 pub forged-close : SumsDiffer (worked 200 100 forgedClose)
-unfolding worked when divCeil afqInRange isMirror within sizesRight maxIoa maxCommonAddress isFileType calledSection oneOf fileAnswered sectionAnswered scAnswered ackAnswered namesAgree answersTo octetSum sumAfter addressRight settled serves frameAgrees admitFrame onAsdu matched onAnswer sectionLength fileAgrees ackAnswer onAck isOurs onRequest provide storeAgrees awaited onFileReady onSectionReady fileClosed onFileClose onClose receive toSend
+unfolding worked when divCeil afqInRange isMirror within sizesRight maxIoa maxCommonAddress isFileType calledSection oneOf fileAnswered sectionAnswered scAnswered ackAnswered namesAgree answersTo octetSum sumAfter addressRight settled serves frameAgrees admitFrame admitKnown onAsdu matched onAnswer sectionLength fileAgrees ackAnswer onAck isOurs onRequest provide storeAgrees awaited onFileReady onSectionReady fileClosed onFileClose onClose receive toSend
 forged-close =
     record {
       acceptances = (tt, (tt, (tt, (λ f is e. let z : f ≡ acknowledgement 1 = cc in inr (inr (inl z)), tt))));
@@ -72,7 +72,7 @@ forged-close =
 
 -- a file of the octets 128 and 128, whose sum is 0: neither frame is forged, and the Receiver has completed with no octet
 pub sum-alone : OctetsDiffer (worked 128 128 closedUnsent)
-unfolding worked when divCeil afqInRange isMirror within sizesRight maxIoa maxCommonAddress isFileType calledSection oneOf fileAnswered sectionAnswered scAnswered ackAnswered namesAgree answersTo octetSum sumAfter addressRight settled serves frameAgrees admitFrame onAsdu matched onAnswer sectionLength sectionCount fileAgrees afterSection ackAnswer onAck isOurs onRequest provide storeAgrees awaited onFileReady onSectionReady fileClosed onFileClose onClose receive toSend
+unfolding worked when divCeil afqInRange isMirror within sizesRight maxIoa maxCommonAddress isFileType calledSection oneOf fileAnswered sectionAnswered scAnswered ackAnswered namesAgree answersTo octetSum sumAfter addressRight settled serves frameAgrees admitFrame admitKnown onAsdu matched onAnswer sectionLength sectionCount fileAgrees afterSection ackAnswer onAck isOurs onRequest provide storeAgrees awaited onFileReady onSectionReady fileClosed onFileClose onClose receive toSend
 sum-alone =
     record {
       unforged =

@@ -27,7 +27,7 @@ use Rattle.asdu.specs.declared.UnknownField.the-variants as U
 use Rattle.asdu.specs.declared.Unspecified.{Unspecified}
 use Rattle.frame.specs.declared.Frame.{Frame}
 use Rattle.frame.specs.declared.Frame.the-variants as F
-use Rattle.ft.specs.Admission.{unspecified, mirrored, notServed, unservedBy, unserved, admitFrame, onAsdu, matched, answering, onAnswer}
+use Rattle.ft.specs.Admission.{unspecified, mirrored, notServed, unservedBy, unserved, admitFrame, admitKnown, onAsdu, matched, answering, onAnswer}
 use Rattle.ft.specs.declared.Role.{Role}
 use Rattle.ft.specs.declared.Role.the-variants.{Controlling, Controlled}
 use Rattle.ft.specs.declared.Selection.{Selection}
@@ -262,11 +262,17 @@ module _ (r : Receiver) (store beside : List ℕ) (ioa : ℕ) (nof : Nof) (nos :
     frame-quiet p =
         either Quiet _ _ _ (either Quiet _ _ _ (either Quiet _ _ _ (leaves _ refl) segment-quiet) (unserved-quiet (p .role) (p .selection))) (leaves _ refl)
 
+    known-quiet : (p : FileTransferProcedure) → Quiet (admitKnown p h U.Nothing segment beside)
+    unfolding admitKnown
+    known-quiet p =
+        let no-field : (which : Unspecified) → Quiet (unspecified (p .role) which) = unspecified-quiet (p .role) in
+        either Quiet _ _ _ (no-field _) (either Quiet _ _ _ (no-field _) (either Quiet _ _ _ (no-field _) (either Quiet _ _ _ (no-field _) (frame-quiet p))))
+
     admission-quiet : (p : FileTransferProcedure) → Quiet (onAsdu p h U.Nothing segment beside)
     unfolding onAsdu mirrored
     admission-quiet p =
         either Quiet _ _ _ (either Quiet _ _ _ (either Quiet _ _ _ (either Quiet _ _ _ (either Quiet _ _ _ (leaves _ refl) (leaves _ refl))
-        (either Quiet _ _ _ (unspecified-quiet (p .role) _) (frame-quiet p))) (leaves _ refl)) (leaves _ refl)) (leaves _ refl)
+        (known-quiet p)) (leaves _ refl)) (leaves _ refl)) (leaves _ refl)
 
     pub segment-silent : sends (receive r store h U.Nothing segment beside .step .answer) ≡ false
     unfolding receive onAnswer

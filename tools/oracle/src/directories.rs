@@ -9,7 +9,7 @@ use crate::calls::Kept;
 use crate::generate::MOST_LISTED;
 use crate::machines::{between, differing, is_outside, sent_frame};
 use crate::show;
-use crate::stations::{self, Arrival, Sort, arrival, refusal, sent_back};
+use crate::stations::{self, Arrival, Sort, arrival, in_order, refusal, sent_back};
 use crate::values::packed;
 use crate::words::{Words, entries};
 use iec104::asdu::{Cause, Cp56Time2a, Known, Lof, Nof, Sof};
@@ -229,7 +229,7 @@ fn on_asdu(kept: &mut Kept, words: &mut Words, line: &str) -> Option<Answer> {
         return Some(RECORD);
     };
     Some(match arrival(words, line, called.station.address_sizes())?.0 {
-        Ok(came) => called.on_asdu(&came, &mut kept.store),
+        Ok(came) => in_order(&came, called.on_asdu(&came, &mut kept.store)),
         Err(outside) => outside,
     })
 }

@@ -7,7 +7,7 @@
 use crate::answer::{ADDRESS, Answer, INDEX, OURS, RECORD, STORE, own, refused, said};
 use crate::calls::Kept;
 use crate::show;
-use crate::stations::{self, Arrival, Sort, admitted, arrival, refusal, sent_back};
+use crate::stations::{self, Arrival, Sort, admitted, arrival, in_order, refusal, sent_back};
 use crate::words::Words;
 use iec104::asdu::{AddressSizes, Afq, Known, Nof, Nos, Scq};
 use iec104::ft::provide::Provider;
@@ -288,7 +288,7 @@ pub fn of_provider(kept: &mut Kept, words: &mut Words, line: &str) -> Option<Ans
     };
     match what {
         "on_asdu" => Some(match arrival(words, line, served.station.address_sizes())?.0 {
-            Ok(came) => served.on_asdu(&came),
+            Ok(came) => in_order(&came, served.on_asdu(&came)),
             Err(outside) => outside,
         }),
         "announce" => Some(announced(served)),
@@ -537,7 +537,7 @@ pub fn of_receiver(kept: &mut Kept, words: &mut Words, line: &str) -> Option<Ans
     };
     match what {
         "on_asdu" | "on_asdu_mut" => Some(match arrival(words, line, taken.station.address_sizes())?.0 {
-            Ok(came) => taken.on_asdu(&came, &mut kept.store),
+            Ok(came) => in_order(&came, taken.on_asdu(&came, &mut kept.store)),
             Err(outside) => outside,
         }),
         "start" => Some(taken.started(&kept.store)),

@@ -6,7 +6,7 @@ use crate::calls::Kept;
 use crate::show;
 use crate::values::{built, direction_for};
 use crate::words::{Facts, Words, Written, six_bits};
-use iec104::asdu::{AddressSizes, Cause, Discard, Header, Known, TypeId};
+use iec104::asdu::{AddressSizes, Cause, Discard, Header, Known, TypeId, Unspecified};
 use iec104::ft::{
     FileTransferProcedure, Frame, FtError, Outcome, Reaction, Role, Selection, decode_frame_with, encode_frame_with,
 };
@@ -18,6 +18,8 @@ pub struct Arrival {
     pub octets: Vec<u8>,
     pub sort: Sort,
     pub known: Known,
+    /// The cause of the type or the cause, where it is unknown in a broadcast header.
+    before_broadcast: Option<Cause>,
 }
 
 /// What the octets behind the header are.
@@ -156,7 +158,13 @@ pub fn arrival(
     let frame = received.and_then(|written| written.with(&beside));
     let (area, sort) = object_area(facts, frame, undecodable, sizes, line.len());
     let octets = encoded(facts, cause, &area, sizes)?;
-    Some((Ok(Arrival { octets, sort, known }), sent))
+    Some((Ok(Arrival { octets, sort, known, before_broadcast: before_broadcast(facts, known, sizes) }), sent))
+}
+
+// Document 02, A11: the type and the cause come before the common address, broadcast or unknown.
+fn before_broadcast(facts: Facts, known: Known, sizes: AddressSizes) -> Option<Cause> {
+    let which = known.unknown.filter(|_| facts.common_address == sizes.max_common_address())?;
+    matches!(which, Unspecified::TypeIdentification | Unspecified::CauseOfTransmission).then(|| which.cause())
 }
 
 // ---- Admission
@@ -181,6 +189,24 @@ pub fn sent_back(cause: Cause, mirror: bool) -> String {
     format!("sent back {}{behind}", cause.to_u8())
 }
 
+/// The Rust's answer; where a header is broadcast and its type or cause unknown, and the Rust names the common
+/// address, A11's answer is meant, which names the type or the cause.
+pub fn in_order(came: &Arrival, answer: Answer) -> Answer {
+    let (Some(cause), Answer::Said(rust)) = (came.before_broadcast, &answer) else {
+        return answer;
+    };
+    let ours = match rust.as_str() {
+        "sent back 46 mirror" => sent_back(cause, true),
+        "discard 46" => discarded(cause),
+        _ => return answer,
+    };
+    Answer::Differs { rust: rust.clone(), ours, why: "an unknown type or cause is named before broadcast" }
+}
+
+fn discarded(cause: Cause) -> String {
+    format!("discard {}", cause.to_u8())
+}
+
 // Whether the frame that was admitted is the one of the call: octets may say another one.
 fn is_as_given(reaction: &Reaction, sort: &Sort) -> bool {
     match reaction {
@@ -203,7 +229,7 @@ pub fn admitted(sort: &Sort, result: Result<Outcome, FtError>) -> Answer {
         Reaction::Answered { .. } => said("answered"),
         Reaction::Refused { cause } => said(sent_back(cause, !outcome.send.is_empty())),
         Reaction::Discard(Discard::Mirror) => said("discard mirror"),
-        Reaction::Discard(Discard::Unspecified(which)) => said(format!("discard {}", which.cause().to_u8())),
+        Reaction::Discard(Discard::Unspecified(which)) => said(discarded(which.cause())),
         Reaction::Other => said("other"),
     }
 }
@@ -277,7 +303,7 @@ pub fn shown(station: FileTransferProcedure) -> String {
 fn on_asdu(station: FileTransferProcedure, words: &mut Words, line: &str) -> Option<Answer> {
     let (arrival, _) = arrival(words, line, station.address_sizes())?;
     Some(match arrival {
-        Ok(came) => admitted(&came.sort, station.on_asdu(&came.octets, &came.known)),
+        Ok(came) => in_order(&came, admitted(&came.sort, station.on_asdu(&came.octets, &came.known))),
         Err(answer) => answer,
     })
 }
@@ -286,7 +312,7 @@ fn on_answer(station: FileTransferProcedure, words: &mut Words, line: &str) -> O
     let (arrival, sent) = arrival(words, line, station.address_sizes())?;
     let sent = sent?.with(&[])?;
     Some(match arrival {
-        Ok(came) => admitted(&came.sort, station.on_answer(&came.octets, &came.known, &sent)),
+        Ok(came) => in_order(&came, admitted(&came.sort, station.on_answer(&came.octets, &came.known, &sent))),
         Err(answer) => answer,
     })
 }

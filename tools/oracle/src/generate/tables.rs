@@ -245,6 +245,36 @@ fn every_unknown(take: &mut dyn FnMut(Case), role: &str, selection: &str, w: [u8
     take(case);
 }
 
+// How each machine is made, handed a frame and looked at.
+const MACHINES: [(&[&str], &str, &str); 4] = [
+    (&["provider new 100 7"], "provider on_asdu", "provider show"),
+    (&["receiver new 100 7"], "receiver on_asdu", "receiver show"),
+    (&["receiver new 100 7"], "receiver on_asdu_mut", "receiver show"),
+    (&["call new", "call start 100"], "call on_asdu", "call show"),
+];
+
+// Every field unknown, broadcast or not, in a frame of every type and in its mirror, to each machine made anew.
+fn every_unknown_to_machines(take: &mut dyn FnMut(Case), role: &str, selection: &str, w: [u8; 3]) {
+    let mut case = Case::new("machines: unknown fields, broadcast");
+    case.call(format!("station new {role} {selection} 1 0 {}", widths(w)));
+    case.call("file is fill 10 1 10");
+    case.call("store is fill 17 9 9");
+    for (kind, frame, beside) in FRAMES {
+        for (cause, negative) in [(if kind == 126 { 5 } else { 13 }, 0), (45, 1)] {
+            for unknown in UNKNOWN {
+                for ca in [1, broadcast(w)] {
+                    for (made, call, show) in MACHINES {
+                        made.iter().for_each(|line| case.call(*line));
+                        case.call(format!("{call} {kind} {cause} {negative} 0 {ca} {unknown} {frame}{beside}"));
+                        case.call(show);
+                    }
+                }
+            }
+        }
+    }
+    take(case);
+}
+
 fn every_undecodable(take: &mut dyn FnMut(Case), role: &str, selection: &str, w: [u8; 3]) {
     let mut case = Case::new("admission: undecodable");
     case.call(format!("station new {role} {selection} 1 0 {}", widths(w)));
@@ -280,6 +310,7 @@ pub fn admission(take: &mut dyn FnMut(Case)) {
             }
             for w in [[2, 2, 3], [1, 1, 1]] {
                 every_unknown(take, role, selection, w);
+                every_unknown_to_machines(take, role, selection, w);
             }
             every_undecodable(take, role, selection, [2, 2, 3]);
             every_type(take, role, selection);

@@ -1,6 +1,6 @@
 use Rattle.laws.proofs.Decide.{whens, yes, nay, yes-by-not, nay-by-not}
 use borrow.Author.Needs.{needs}
-use borrow.Author.Tests.{eq-eqb, ne-eqb, le-leb, lt-leb}
+use borrow.Author.Tests.{le-leb, lt-leb}
 use Rattle.ft.specs.Admission.{onAsdu}
 use Rattle.ft.proofs.FileTransferProcedure.on_asdu.Statement.{statement}
 use Rattle.ft.proofs.FileTransferProcedure.on_asdu.Tie as tie
@@ -12,13 +12,13 @@ on-asdu-spec =
     (tie.spec
     (λ c κs. search needs)
     (λ c κs. search needs)
-    (λ c. simp (whens, nay-by-not (c .before .is-settled .ensures) (c .if1 .taken), ← (c .before .before .broadcast-common-address .ensures)))
+    (λ c. simp (whens, nay-by-not (c .before .is-settled .ensures) (c .if1 .taken), ← (c .before .before .max-common-address .ensures)))
     (λ c.
     simp (
       whens,
       lt-leb _ _ (c .if2 .taken),
       yes-by-not (c .before .before .before .is-settled .ensures) (c .before .before .if1 .left),
-      ← (c .before .before .before .before .broadcast-common-address .ensures),
+      ← (c .before .before .before .before .max-common-address .ensures),
     ))
     (λ c κs. search needs)
     (λ c.
@@ -27,7 +27,7 @@ on-asdu-spec =
       nay-by-not (c .before .is-file-type .ensures) (c .if3 .taken),
       le-leb _ _ (c .before .before .if2 .left),
       yes-by-not (c .before .before .before .before .before .is-settled .ensures) (c .before .before .before .before .if1 .left),
-      ← (c .before .before .before .before .before .before .broadcast-common-address .ensures),
+      ← (c .before .before .before .before .before .before .max-common-address .ensures),
     ))
     (λ c κs. search needs)
     (λ c κs. search needs)
@@ -39,29 +39,16 @@ on-asdu-spec =
       le-leb _ _ (c .before .before .before .before .before .if2 .left),
       yes-by-not (c .before .before .before .before .before .before .before .before .is-settled .ensures) (c .before .before .before .before .before .before .before .if1 .left),
       ← (c .on-mirror .ensures),
-      ← (c .before .before .before .before .before .before .before .before .before .broadcast-common-address .ensures),
+      ← (c .before .before .before .before .before .before .before .before .before .max-common-address .ensures),
     ))
     (λ c κs. search needs)
     (λ c.
     simp (
       whens,
-      eq-eqb _ _ (c .before .if5 .taken),
-      nay (c .before .before .before .before .is-mirror .ensures) (c .before .before .before .if4 .left),
-      yes-by-not (c .before .before .before .before .before .before .is-file-type .ensures) (c .before .before .before .before .before .if3 .left),
-      le-leb _ _ (c .before .before .before .before .before .before .before .if2 .left),
-      yes-by-not (c .before .before .before .before .before .before .before .before .before .before .is-settled .ensures) (c .before .before .before .before .before .before .before .before .before .if1 .left),
-      ← (c .unspecified .ensures),
-      ← (c .before .before .before .before .before .before .before .before .before .before .before .broadcast-common-address .ensures),
-    ))
-    (λ c κs. search needs)
-    (λ c.
-    simp (
-      whens,
-      ne-eqb _ _ (c .before .if5 .left),
-      nay (c .before .before .before .before .is-mirror .ensures) (c .before .before .before .if4 .left),
-      yes-by-not (c .before .before .before .before .before .before .is-file-type .ensures) (c .before .before .before .before .before .if3 .left),
-      le-leb _ _ (c .before .before .before .before .before .before .before .if2 .left),
-      yes-by-not (c .before .before .before .before .before .before .before .before .before .before .is-settled .ensures) (c .before .before .before .before .before .before .before .before .before .if1 .left),
+      nay (c .before .before .is-mirror .ensures) (c .before .if4 .left),
+      yes-by-not (c .before .before .before .before .is-file-type .ensures) (c .before .before .before .if3 .left),
+      le-leb _ _ (c .before .before .before .before .before .if2 .left),
+      yes-by-not (c .before .before .before .before .before .before .before .before .is-settled .ensures) (c .before .before .before .before .before .before .before .if1 .left),
       ← (c .admit-known .ensures),
-      ← (c .before .before .before .before .before .before .before .before .before .before .before .broadcast-common-address .ensures),
+      ← (c .before .before .before .before .before .before .before .before .before .max-common-address .ensures),
     )))
