@@ -87,7 +87,7 @@ abbrev pub isFirst : UnknownField → Unspecified → Bool
 isFirst Nothing field = false
 isFirst (First which) field = eqb (unspecifiedCause which .value) (unspecifiedCause field .value)
 
--- steps 3 and 4 in the order of causes 44 to 47, as document 02, A11, has them: type, cause, common address (broadcast or unknown), object address
+-- steps 3 and 4 (document 02, A11): type, cause, common address (broadcast or unknown), object address, as causes 44 to 47 are numbered
 unfoldable pub admitKnown : FileTransferProcedure → Header → UnknownField → Received → List ℕ → Reaction
 admitKnown p h unknown received beside =
     when (isFirst unknown TypeIdentification) (unspecified (p .role) TypeIdentification)
@@ -97,7 +97,7 @@ admitKnown p h unknown received beside =
     -- steps 5 to 7
     (admitReceived p h received beside))))
 
--- document 01's order, step by step
+-- document 01's order, step by step, 3 and 4 as document 02, A11, has them
 unfoldable pub onAsdu : FileTransferProcedure → Header → UnknownField → Received → List ℕ → Reaction
 onAsdu p h unknown received beside =
     -- before the steps: 26, then 3

@@ -1,5 +1,5 @@
-// What a received frame means to a station: document 01's steps 1 to 7, in their order (IEC
-// 60870-5-101, 7.2.3, and 60870-5-104, 7.11).
+// What a received frame means to a station: document 01's steps 1 to 7, in their order, 3 and 4 as
+// document 02, A11, has them (IEC 60870-5-101, 7.2.3, and 60870-5-104, 7.11).
 use crate::FileTransferProcedure;
 use crate::Reaction;
 use crate::Received;
