@@ -24,8 +24,8 @@ const MAX_DAMAGE: u32 = 255;
 
 const MAX_OCTET: u32 = 255;
 
-// A number and the place after it.
-enum Reading {
+// A number and the place after it, or that there is none.
+pub enum Reading {
     Number { value: u32, next: usize },
     Nothing,
 }
@@ -67,29 +67,30 @@ fn digit_at(text: &[u8], at: usize) -> u32
     (text[at] - b'0') as u32
 }
 
-// The number whose digits before the place make first.
+// The number whose digits before the place make first. A digit more than any limit has is within 64 bits.
 fn more_at(text: &[u8], at: usize, limit: u32, first: u32) -> Reading
-    requires { ⌜ limit ≤ 16777215 ⌝ }
     ensures { λ r. ⌜ foundAt (now (text .entry)) r ≡ more limit first (drop at (now (text .entry))) ⌝ }
 {
-    let mut value = first;
+    let mut value = first as u64;
     let mut next = at;
-    while value <= limit {
+    while value <= limit as u64 {
         if !is_digit_at(text, next) {
-            return Reading::Number { value, next };
+            return Reading::Number {
+                value: value as u32,
+                next,
+            };
         }
         if value == 0 {
             return Reading::Nothing;
         }
-        value = 10 * value + digit_at(text, next);
+        value = 10 * value + digit_at(text, next) as u64;
         next += 1;
     }
     Reading::Nothing
 }
 
 // A number to its limit.
-fn number_at(text: &[u8], at: usize, limit: u32) -> Reading
-    requires { ⌜ limit ≤ 16777215 ⌝ }
+pub fn number_at(text: &[u8], at: usize, limit: u32) -> Reading
     ensures { λ r. ⌜ foundAt (now (text .entry)) r ≡ number limit (drop at (now (text .entry))) ⌝ }
 {
     if is_digit_at(text, at) {
@@ -100,8 +101,7 @@ fn number_at(text: &[u8], at: usize, limit: u32) -> Reading
 }
 
 // A number after one space.
-fn after_at(text: &[u8], at: usize, limit: u32) -> Reading
-    requires { ⌜ limit ≤ 16777215 ⌝ }
+pub fn after_at(text: &[u8], at: usize, limit: u32) -> Reading
     ensures { λ r. ⌜ foundAt (now (text .entry)) r ≡ spacedNumber limit (drop at (now (text .entry))) ⌝ }
 {
     if is_at(text, at, b' ') {
@@ -131,7 +131,7 @@ fn numbers_at(text: &[u8], at: usize, count: u32, out: &mut [u8]) -> Reading
 
 // So many octets after their count.
 fn counted_at(text: &[u8], at: usize, limit: u32, out: &mut [u8]) -> Reading
-    requires { ⌜ (limit ≤ 16777215) × (limit ≤ length (now out)) ⌝ }
+    requires { ⌜ limit ≤ length (now out) ⌝ }
     ensures { λ r. ⌜ (octetsAt (now (text .entry)) (now (out .exit)) r ≡ countedOctets limit (drop at (now (text .entry)))) × Kept (now (out .entry)) (now (out .exit)) r ⌝ }
 {
     let count = after_at(text, at, limit);
@@ -166,7 +166,7 @@ fn settings_of(text: &[u8]) -> SettingsRead
 }
 
 // Whether one newline stands at the place and ends the text.
-fn is_end(text: &[u8], at: usize) -> bool
+pub fn is_end(text: &[u8], at: usize) -> bool
     ensures { λ r. ⌜ r ≡ ends (drop at (now (text .entry))) ⌝ }
 {
     if is_at(text, at, b'\n') {

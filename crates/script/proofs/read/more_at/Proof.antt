@@ -30,6 +30,7 @@ more-at-spec =
     μ-loop
     (λ c. refl)
     (λ c κs. search needs)
+    (λ c. search needs)
     (λ c.
     let l = c .before .before in
     sym (more-stop _ _ (drop (l .before .loop .next) (l .before .before .before .args .text .now)) (l .loop-test .taken) (nay-by-not (c .before .is-digit-at .ensures) (c .if1 .taken)))
@@ -41,6 +42,7 @@ more-at-spec =
     sym (more-zero t (l .before .loop .next) _ _ (l .loop-test .taken) d (c .if2 .taken)) ∙ l .before .loop .inv)
     (λ c. search needs)
     (λ c κs. yes-by-not (c .before .before .is-digit-at .ensures) (c .before .if1 .left))
+    (λ c. search needs)
     (λ c. search needs)
     (λ c. search needs)
     (λ c. search needs)

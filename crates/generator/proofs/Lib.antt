@@ -1,0 +1,5 @@
+pub mod Octets
+pub mod Fronts
+pub mod Answers
+pub mod TwoCalls
+pub mod Named
