@@ -9,6 +9,7 @@ ghost use lib.ListN.{length};
 ghost use Rattle.exchange.specs.Lines.{sideOf, namedSection, qualifier, statedSum};
 ghost use Rattle.script.specs.Decimal.{decimal};
 ghost use Rattle.lines.specs.LineText.{letterOf, fieldsText, lineText};
+ghost use Rattle.lines.specs.Numbers.{placeAfter, textAfter};
 ghost use Rattle.lines.specs.Putting.{Put};
 ghost use Rattle.script.specs.Answers.{over};
 
@@ -98,6 +99,19 @@ fn put_field(out: &mut [u8], at: usize, n: u32) -> usize
 {
     let next = put(out, at, b' ');
     put_decimal(out, next, n)
+}
+
+// Puts a number after one space into a text, and answers the place after it; where the text has no room
+// for it there, nothing is put, and the answer is the place itself.
+pub fn put_number(out: &mut [u8], at: usize, n: u32) -> usize
+    ensures { λ r. ⌜ (r ≡ placeAfter (now (out .entry)) at (32 ∷ decimal n)) × (now (out .exit) ≡ textAfter (now (out .entry)) at (32 ∷ decimal n)) ⌝ }
+{
+    let mut field = [0u8; 16];
+    let length = put_field(&mut field, 0, n);
+    if store::write_at(out, at, 0, &field[..length]) {
+        return at + length;
+    }
+    at
 }
 
 // Writes a line, which is at most 25 octets long, over the front of out, and answers its length.
