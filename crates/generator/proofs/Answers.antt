@@ -8,6 +8,7 @@ use borrow.Author.Tests.{le-leb, lt-leb, eq-eqb, ne-eqb}
 use Rattle.laws.proofs.Decide.{whens}
 use Rattle.lists.specs.Parts.{divCeil}
 use Rattle.lists.proofs.Parts.{ceil-enough}
+use Rattle.asdu.specs.declared.FtError.{FtError}
 use Rattle.asdu.specs.declared.FtError.the-variants.{FileTooLong}
 use Rattle.sections.specs.Sections.{sectionLength, sectionCount}
 use Rattle.sections.proofs.Cuts.{length-least}
@@ -25,6 +26,10 @@ module _ (g : Generator) (file : List ℕ) where
   pub file-filled : length file ≤ maxLength → (F.Ok (afterSteps (length file) g) ≡ fileAnswer g file) × (octetsFrom (length file) (g .state) ≡ fileAfter g file)
   unfolding fileAnswer fileAfter
   file-filled allowed = (simp (whens, le-leb _ _ allowed), simp (whens, le-leb _ _ allowed))
+
+  -- a file that is not too long is not refused
+  pub file-never : length file ≤ maxLength → (e : FtError) → F.Err e ≡ fileAnswer g file → ⊥
+  file-never allowed e said = let z : _≡_ {A = ℕ} 0 1 = cc (file-filled allowed .0, said) in omega arith
 
 -- where there are octets, so is a section that holds them
 some : (d size n : ℕ) → 0 < n → n ≤ d * size → 0 < d
@@ -59,3 +64,19 @@ module _ (g : Generator) (n : ℕ) (list : List ℕ) where
         simp (whens, le-leb _ _ allowed, ne-eqb _ _ some-octets, ← places, ← state),
         simp (whens, le-leb _ _ allowed, ne-eqb _ _ some-octets, ← places, octets, all),
       )
+
+  -- the number of places is told by the answer
+  pub list-count : (h : Generator) (k : ℕ) → n ≤ maxLength → D.Ok k h ≡ damageAnswer g n list → k ≡ placesFilled n (length list)
+  unfolding damageAnswer
+  list-count h k allowed said = let e : D.Ok k h ≡ D.Ok (placesFilled n (length list)) (afterSteps (placesFilled n (length list)) g) = said ∙ simp (whens, le-leb _ _ allowed) in cc
+
+  pub list-never : n ≤ maxLength → (e : FtError) → D.Err e ≡ damageAnswer g n list → ⊥
+  unfolding damageAnswer
+  list-never allowed e said =
+      let told : D.Err e ≡ D.Ok (placesFilled n (length list)) (afterSteps (placesFilled n (length list)) g) = said ∙ simp (whens, le-leb _ _ allowed) in
+      let z : _≡_ {A = ℕ} 0 1 = cc in
+      omega arith
+
+  pub list-after : n ≤ maxLength → damageAfter g n list ≡ entriesFrom n (placesFilled n (length list)) (g .state) ++ drop (placesFilled n (length list)) list
+  unfolding damageAfter
+  list-after allowed = simp (whens, le-leb _ _ allowed)

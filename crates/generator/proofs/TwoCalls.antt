@@ -11,7 +11,7 @@ use Rattle.generator.proofs.Octets.{octets-joined, states-joined}
 use Rattle.generator.proofs.Answers.{file-filled}
 
 -- the generator that the front's call answers is so many steps on
-handed-on : (g h : Generator) (front : List ℕ) → length front ≤ maxLength → fileAnswer g front ≡ Ok h → afterSteps (length front) g ≡ h
+pub handed-on : (g h : Generator) (front : List ℕ) → length front ≤ maxLength → fileAnswer g front ≡ Ok h → afterSteps (length front) g ≡ h
 handed-on g h front allowed handed = cc (file-filled g front allowed .0, handed)
 
 -- the front filled from g, which answers h, then the back from h

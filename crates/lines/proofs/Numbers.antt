@@ -7,7 +7,7 @@ use native.Mathlib.Omega.{arith}
 use lib.Dec.{leb}
 use lib.ListN.{length, take, drop, length-append}
 use lib.Seq.{take-append-seam}
-use borrow.Author.Tests.{leb-true}
+use borrow.Author.Tests.{leb-true, le-leb}
 use Rattle.laws.specs.When.{when}
 use Rattle.laws.proofs.Decide.{whens}
 use Rattle.store.specs.Store.{written}
@@ -48,3 +48,9 @@ module _ {xs ys : List ℕ} {n : ℕ} {p : List ℕ} (f : Put xs 0 p n ys) where
     pub number-left : b ≡ false → (place ≡ placeAfter text place p) × (after ≡ textAfter text place p)
     unfolding placeAfter
     number-left t = (simp (whens, sym room ∙ t), text-put)
+
+-- where there is room, a number is put
+pub put-with-room : {text after : List ℕ} {place next : ℕ} {p : List ℕ} → (next ≡ placeAfter text place p) × (after ≡ textAfter text place p)
+    → place + length p ≤ length text → Put text place p next after
+unfolding hasRoom placeAfter textAfter
+put-with-room said h = record { end = said .0 ∙ simp (whens, le-leb _ _ h); text = said .1 ∙ simp (whens, le-leb _ _ h) }

@@ -45,11 +45,11 @@ module _ (t : List ℕ) (e : beginsDigit t ≡ false) where
   settings-spaced o n ns h k =
       rw (decimal-one 2 (omega arith)) (simp (whens, after-spaced 16777215 o (n ∷ ns) h, after-spaced 65535 n ns k))
 
-no-digit : beginsDigit (10 ∷ []) ≡ false
+pub no-digit : beginsDigit (10 ∷ []) ≡ false
 unfolding beginsDigit when
 no-digit = refl
 
-ends-newline : ends (10 ∷ []) ≡ true
+pub ends-newline : ends (10 ∷ []) ≡ true
 unfolding ends begins when
 ends-newline = refl
 
@@ -65,18 +65,18 @@ right-read s r =
 -- ---- what is read is a right script
 
 -- where what is read next was found, so was what stands before it
-record Then {A B : Type 0} (m : Found A) (next : A → List ℕ → Found B) (b : B) (rest : List ℕ) : Type 0 where
-  first : A
-  left : List ℕ
-  was : m ≡ found first left
-  then : next first left ≡ found b rest
+pub record Then {A B : Type 0} (m : Found A) (next : A → List ℕ → Found B) (b : B) (rest : List ℕ) : Type 0 where
+  pub first : A
+  pub left : List ℕ
+  pub was : m ≡ found first left
+  pub then : next first left ≡ found b rest
 
-then-found : {A B : Type 0} (m : Found A) {next : A → List ℕ → Found B} {b : B} {rest : List ℕ} → thenRead m next ≡ found b rest → Then m next b rest
+pub then-found : {A B : Type 0} (m : Found A) {next : A → List ℕ → Found B} {b : B} {rest : List ℕ} → thenRead m next ≡ found b rest → Then m next b rest
 then-found nothing h = let z : _≡_ {A = ℕ} 0 1 = cc in absurd (omega arith)
 then-found (found a t) h = record { first = a; left = t; was = refl; then = h }
 
 -- what holds of something found holds of the same thing
-moved : {A : Type 0} (P : A → List ℕ → Type 0) {a b : A} {t u : List ℕ} → found a t ≡ found b u → P a t → P b u
+pub moved : {A : Type 0} (P : A → List ℕ → Type 0) {a b : A} {t u : List ℕ} → found a t ≡ found b u → P a t → P b u
 moved P {a} {b} {t} {u} h x =
     let p : a ≡ b = cc in
     let q : t ≡ u = cc in
@@ -138,13 +138,13 @@ settings-found (x ∷ t) s rest h =
     (settings-text x (k .first) (j .first) t (k .left) (j .left) (eqb-true _ _ (b .0)) (after-found 16777215 (k .first) (k .left) t (k .was)) (after-found 65535 (j .first) (j .left) (k .left) (j .was)))
 
 -- the end
-ends-found : (t : List ℕ) → ends t ≡ true → t ≡ 10 ∷ []
+pub ends-found : (t : List ℕ) → ends t ≡ true → t ≡ 10 ∷ []
 unfolding ends begins when
 ends-found [] e = let z : _≡_ {A = ℕ} 0 1 = cc in absurd (omega arith)
 ends-found (x ∷ []) e = rw (eqb-true x 10 (both _ _ e .0))
 ends-found (x ∷ y ∷ t) e = let z : suc (suc (length t)) ≡ 1 = eqb-true _ _ (both (eqb x 10) _ e .1) in absurd (omega arith)
 
-spaced-append : (xs ys : List ℕ) → spaced (xs ++ ys) ≡ spaced xs ++ spaced ys
+pub spaced-append : (xs ys : List ℕ) → spaced (xs ++ ys) ≡ spaced xs ++ spaced ys
 spaced-append [] ys = refl
 spaced-append (x ∷ xs) ys = rw (spaced-append xs ys, append-assoc)
 

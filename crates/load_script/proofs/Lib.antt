@@ -1,0 +1,4 @@
+pub mod Texts
+pub mod Filling
+pub mod Meaning
+pub mod Right
