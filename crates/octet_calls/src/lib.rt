@@ -1,4 +1,6 @@
 // Calls of `replay` (docs/REPLAY.md) on the buffers, and on the scripts that are read into them.
+pub mod loads; // the test load's generator, and its scripts
+
 use script::Outline;
 use script::ScriptResult;
 use station_calls::kept;
@@ -61,7 +63,7 @@ fn is_of_buffer(
 // ---- Scripts
 
 // A text of at most a line's length.
-type Text = [u8; 65536];
+pub(crate) type Text = [u8; 65536];
 
 // What stands for one octet behind a backslash, or 0.
 fn escaped(octet: u8) -> u8 {
@@ -158,7 +160,7 @@ fn read_script(script: &[u8], regs: &mut Numbers, file: &mut Octets, damage: &mu
 }
 
 // The same of the first octets of a text.
-fn read_front(
+pub(crate) fn read_front(
     script: &Text,
     count: usize,
     regs: &mut Numbers,
@@ -169,7 +171,7 @@ fn read_front(
 }
 
 // The text without its last octet.
-fn without_last(text: &[u8]) -> &[u8] {
+pub(crate) fn without_last(text: &[u8]) -> &[u8] {
     let count = text.len();
     if 0 < count {
         return &text[0..count - 1];
@@ -177,27 +179,36 @@ fn without_last(text: &[u8]) -> &[u8] {
     text
 }
 
-// Whether the line is `script read` with a text between quotes.
-fn is_quoted(line: &[u8]) -> bool {
-    if line.len() <= 13 {
+// Whether the line is a call of this name, which ends with a quote, and has a text up to its last quote.
+fn is_quoted(line: &[u8], name: &[u8]) -> bool {
+    if line.len() <= name.len() {
         return false;
     }
     if text::last(line) == b'"' {
-        return text::is_same(text::front(line, 13), b"script read \"");
+        return text::is_same(text::front(line, name.len() as u64), name);
     }
     false
 }
 
-// Reads the script of the line into the buffers, if the line is such a call.
-pub fn is_script(line: &[u8], regs: &mut Numbers, file: &mut Octets, damage: &mut Octets) -> bool {
-    if !is_quoted(line) {
-        return false;
+// Puts the text of such a call in front, writes the call for its answer to follow, and answers how many
+// octets the text has; more than there is room for where the line is none.
+pub(crate) fn text_of(line: &[u8], name: &[u8], out: &mut Text) -> usize {
+    if !is_quoted(line, name) {
+        return usize::MAX;
     }
-    let mut script = io::large_buffer();
     let body = without_last(line);
-    let count = unquoted(text::between(body, 13, body.len()), &mut script);
+    let count = unquoted(text::between(body, name.len(), body.len()), out);
     if count <= 65536 {
         write::call(line);
+    }
+    count
+}
+
+// Reads the script of the line into the buffers, if the line is such a call.
+pub fn is_script(line: &[u8], regs: &mut Numbers, file: &mut Octets, damage: &mut Octets) -> bool {
+    let mut script = io::large_buffer();
+    let count = text_of(line, b"script read \"", &mut script);
+    if count <= 65536 {
         read_front(&script, count, regs, file, damage);
         return true;
     }

@@ -7,6 +7,7 @@ use frame_calls::making;
 use frame_calls::parts;
 use machine_calls::providing;
 use machine_calls::receiving;
+use octet_calls::loads;
 use station_calls::kept;
 use station_calls::stations;
 use words::Numbers;
@@ -94,6 +95,9 @@ fn is_of_buffers(
     store: &mut Octets,
 ) -> bool {
     if octet_calls::call(line, regs, file, damage, store) {
+        return true;
+    }
+    if loads::call(line, regs, file, damage) {
         return true;
     }
     octet_calls::is_script(line, regs, file, damage)
