@@ -1,6 +1,6 @@
 -- What filling answers and leaves, test by test.
 use Prim.Native.Nat.{ℕ, zero, suc, _*_, _≤_, _<_, min}
-use mathlib.Core.Path.{_≡_, refl, sym, ap, _∙_}
+use mathlib.Core.Path.{_≡_, _∙_}
 use mathlib.Core.List.{List, _++_, map}
 use native.Mathlib.Omega.{arith}
 use lib.ListN.{length, drop}
@@ -13,7 +13,7 @@ use Rattle.asdu.specs.declared.FtError.the-variants.{FileTooLong}
 use Rattle.sections.specs.Sections.{sectionLength, sectionCount}
 use Rattle.sections.proofs.Cuts.{length-least}
 use Rattle.generator.specs.Sequence.{stateAfter, octetsFrom}
-use Rattle.generator.specs.Load.{maxLength, afterSteps, fileAnswer, fileAfter, nonEmptySections, naming, placesFilled, entriesFrom, damageAnswer, damageAfter}
+use Rattle.generator.specs.Filling.{maxLength, afterSteps, fileAnswer, fileAfter, nonEmptySections, naming, placesFilled, entriesFrom, damageAnswer, damageAfter}
 use Rattle.generator.specs.declared.Generator.{Generator}
 use Rattle.generator.specs.declared.FileResult.the-variants as F
 use Rattle.generator.specs.declared.DamageResult.the-variants as D

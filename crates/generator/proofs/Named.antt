@@ -1,5 +1,5 @@
 -- Every entry of a damage list names a section with octets, so that a script of them is never refused by 11 (document 02, A2).
-use Prim.Native.Nat.{ℕ, zero, suc, _+_, _-_, _*_, _%_, _≤_, _<_}
+use Prim.Native.Nat.{ℕ, suc, _+_, _-_, _*_, _%_, _≤_, _<_}
 use mathlib.Core.Path.{_≡_, refl, sym, _∙_}
 use mathlib.Core.Bool.{true, false}
 use mathlib.Core.List.{List, [], _∷_, map}
@@ -17,7 +17,7 @@ use Rattle.sections.proofs.SectionLaws.{some-section}
 use Rattle.radio.specs.Radio.{hasOctets, allHaveOctets}
 use Rattle.radio.proofs.Damage.{begins-within}
 use Rattle.generator.specs.Sequence.{octetsFrom}
-use Rattle.generator.specs.Load.{nonEmptySections, naming, placesFilled, entriesFrom}
+use Rattle.generator.specs.Filling.{nonEmptySections, naming, placesFilled, entriesFrom}
 use Rattle.generator.proofs.Answers.{all-sections}
 
 -- section j + 1 of so many begins within the file

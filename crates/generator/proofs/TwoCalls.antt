@@ -4,7 +4,7 @@ use mathlib.Core.Path.{_≡_}
 use mathlib.Core.List.{List, _++_}
 use native.Mathlib.Omega.{arith}
 use lib.ListN.{length, length-append}
-use Rattle.generator.specs.Load.{maxLength, afterSteps, fileAnswer, fileAfter}
+use Rattle.generator.specs.Filling.{maxLength, afterSteps, fileAnswer, fileAfter}
 use Rattle.generator.specs.declared.Generator.{Generator}
 use Rattle.generator.specs.declared.FileResult.the-variants.{Ok}
 use Rattle.generator.proofs.Octets.{octets-joined, states-joined}

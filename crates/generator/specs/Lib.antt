@@ -1,2 +1,2 @@
 pub mod Sequence
-pub mod Load
+pub mod Filling

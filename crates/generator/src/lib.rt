@@ -6,10 +6,10 @@ use counts::least;
 use sections::section_count;
 ghost use mathlib.Core.Path.{_≡_};
 ghost use mathlib.Core.List.{map};
-ghost use Prim.Native.Nat.{_*_, _^_, _%_, _≤_, _<_};
+ghost use Prim.Native.Nat.{_*_, _^_, _%_, _<_};
 ghost use lib.ListN.{length};
 ghost use Rattle.generator.specs.Sequence.{stepped, octetOf, stateAfter, octetsFrom};
-ghost use Rattle.generator.specs.Load.{fileAnswer, fileAfter, naming, damageAnswer, damageAfter};
+ghost use Rattle.generator.specs.Filling.{fileAnswer, fileAfter, naming, damageAnswer, damageAfter};
 
 // The step's factor and what it adds.
 const FACTOR: u32 = 1_664_525;

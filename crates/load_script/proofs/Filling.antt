@@ -1,6 +1,6 @@
 -- What the generator's calls leave in front of the buffers of a load.
 use Prim.Native.Nat.{ℕ, zero, suc, _≤_}
-use mathlib.Core.Path.{_≡_, refl, sym, ap, _∙_}
+use mathlib.Core.Path.{_≡_, refl, sym, _∙_}
 use mathlib.Core.List.{List, [], _∷_, _++_, append-assoc}
 use native.Mathlib.Omega.{arith}
 use lib.Dec.{eqb·suc-zero}
@@ -9,7 +9,7 @@ use lib.Seq.{length-take-le, take-append-seam}
 use Rattle.asdu.specs.declared.FtError.{FtError}
 use Rattle.laws.specs.When.{when}
 use Rattle.generator.specs.Sequence.{octetsFrom}
-use Rattle.generator.specs.Load.{fileAnswer, fileAfter, nonEmptySections, naming, placesFilled, entriesFrom, damageAnswer, damageAfter}
+use Rattle.generator.specs.Filling.{fileAnswer, fileAfter, nonEmptySections, naming, placesFilled, entriesFrom, damageAnswer, damageAfter}
 use Rattle.generator.specs.declared.Generator.{Generator}
 use Rattle.generator.specs.declared.FileResult.the-variants as F
 use Rattle.generator.specs.declared.DamageResult.the-variants as D

@@ -7,12 +7,11 @@ use mathlib.Core.List.{List, [], _∷_, _++_, append-assoc, append-nil}
 use native.Mathlib.Omega.{arith}
 use lib.ListN.{drop}
 use Rattle.laws.proofs.Decide.{whens}
-use Rattle.script.specs.Decimal.{decimal, spaced}
-use Rattle.script.specs.Reader.{Found, nothing, found, begins, beginsDigit, number, spacedNumber, ends}
-use Rattle.script.proofs.Decimals.{either}
+use Rattle.script.specs.Decimal.{decimal}
+use Rattle.script.specs.Reader.{nothing, found, begins, beginsDigit, number, spacedNumber, ends}
 use Rattle.script.proofs.NumberLaws.{after-text, after-found}
-use Rattle.script.proofs.Meaning.{then-found, moved, no-digit, ends-newline, ends-found}
-use Rattle.load_script.specs.Load.{maxState, Within, loadText, loadBody, wholeLoad, loadOf}
+use Rattle.script.proofs.Meaning.{then-found, moved, no-digit, ends-newline, whole-found}
+use Rattle.load_script.specs.Load.{Within, loadText, loadBody, loadOf}
 use Rattle.load_script.specs.Answers.{readAs}
 use Rattle.load_script.specs.declared.Load.{Load}
 use Rattle.load_script.specs.declared.LoadRead.the-variants.{Is, Nothing}
@@ -111,14 +110,4 @@ body-found t l rest h =
 
 pub read-load : (t : List ℕ) (l : Load) → loadOf t ≡ some l → Within l × (t ≡ loadText l)
 unfolding loadOf
-read-load t l h = go (loadBody t) (body-found t) h
-  where
-    go : (m : Found Load) → ((l : Load) (rest : List ℕ) → m ≡ found l rest → Read t l rest) → wholeLoad m ≡ some l → Within l × (t ≡ loadText l)
-    go nothing f e = let z : _≡_ {A = ℕ} 0 1 = cc in absurd (omega arith)
-    go (found x rest) f e =
-        either (ends rest)
-        (λ b.
-        let p : x ≡ l = cc (simp (whens, b) at e) in
-        let r = f x rest refl in
-        rw (← p) (r .within, r .text (ends-found rest b)))
-        (λ b. let q : none ≡ some l = simp (whens, b) at e in let z : _≡_ {A = ℕ} 0 1 = cc in absurd (omega arith))
+read-load t l h = let r = body-found t l (10 ∷ []) (whole-found (loadBody t) l h) in (r .within, r .text refl)

@@ -1,5 +1,5 @@
 -- The script of a load is right: the transfer program reads it back, and no entry of its damage is refused by 11 (document 02, A2).
-use Prim.Native.Nat.{ℕ, zero, suc, _≤_, _<_}
+use Prim.Native.Nat.{ℕ, zero, suc, _<_}
 use mathlib.Core.Bool.{true}
 use mathlib.Core.Path.{_≡_, ap, _∙_}
 use mathlib.Core.Option.{some}
@@ -15,7 +15,7 @@ use Rattle.script.specs.Script.{Octets, Right, textOf}
 use Rattle.script.specs.Reader.{scriptOf}
 use Rattle.script.proofs.Meaning.{right-read}
 use Rattle.generator.specs.Sequence.{stepped, octetOf, octetsFrom}
-use Rattle.generator.specs.Load.{nonEmptySections, naming, placesFilled, entriesFrom}
+use Rattle.generator.specs.Filling.{nonEmptySections, naming, placesFilled, entriesFrom}
 use Rattle.generator.proofs.Answers.{all-sections}
 use Rattle.generator.proofs.Named.{damage-named}
 use Rattle.load_script.specs.Load.{Within, fileOf, afterFile, damageOf, scriptFor}

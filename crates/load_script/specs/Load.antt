@@ -1,13 +1,12 @@
 -- A test load for the radio bench as text, and the transfer script that it stands for (document 02, A2).
 use Prim.Native.Nat.{ℕ, _≤_}
-use mathlib.Core.Option.{Option, none, some}
+use mathlib.Core.Option.{Option}
 use mathlib.Core.List.{List, [], _∷_, _++_}
-use Rattle.laws.specs.When.{when}
 use Rattle.script.specs.Decimal.{decimal, spaced}
 use Rattle.script.specs.Script.{maxFile, maxDamage, Script}
-use Rattle.script.specs.Reader.{Found, nothing, found, thenRead, number, spacedNumber, ends}
+use Rattle.script.specs.Reader.{Found, found, thenRead, number, spacedNumber, wholeText}
 use Rattle.generator.specs.Sequence.{octetsFrom}
-use Rattle.generator.specs.Load.{afterSteps, placesFilled, entriesFrom}
+use Rattle.generator.specs.Filling.{afterSteps, placesFilled, entriesFrom}
 use Rattle.generator.specs.declared.Generator.{Generator}
 use Rattle.load_script.specs.declared.Load.{Load}
 
@@ -34,14 +33,9 @@ loadBody t =
     (λ state t₁. thenRead (spacedNumber maxFile t₁) (λ octets t₂. thenRead (spacedNumber maxDamage t₂)
     (λ entries t₃. found (record { state = state; octets = octets; entries = entries }) t₃)))
 
--- a load that its text ends
-abbrev pub wholeLoad : Found Load → Option Load
-wholeLoad nothing = none
-wholeLoad (found l rest) = when (ends rest) (some l) none
-
 -- the load that a whole text is: exactly the texts of loads within are loads (`load-read` and `read-load`, proofs/Meaning.antt)
 unfoldable pub loadOf : List ℕ → Option Load
-loadOf t = wholeLoad (loadBody t)
+loadOf t = wholeText (loadBody t)
 
 -- ---- its script
 

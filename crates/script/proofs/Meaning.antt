@@ -13,7 +13,7 @@ use Rattle.laws.proofs.Decide.{whens}
 use Rattle.asdu.proofs.Range.{both}
 use Rattle.script.specs.Decimal.{decimal, spaced}
 use Rattle.script.specs.Script.{Script, Octets, Right, textOf}
-use Rattle.script.specs.Reader.{Found, nothing, found, thenRead, begins, beginsDigit, spacedNumber, numbers, countedOctets, ScriptSettings, settings, ends, scriptBody, wholeScript, scriptOf}
+use Rattle.script.specs.Reader.{Found, nothing, found, thenRead, begins, beginsDigit, spacedNumber, numbers, countedOctets, ScriptSettings, settings, ends, scriptBody, wholeText, scriptOf}
 use Rattle.script.proofs.Decimals.{either, decimal-one}
 use Rattle.script.proofs.NumberLaws.{after-text, after-found, holds}
 use Rattle.script.proofs.Stages.{whole}
@@ -138,7 +138,7 @@ settings-found (x ∷ t) s rest h =
     (settings-text x (k .first) (j .first) t (k .left) (j .left) (eqb-true _ _ (b .0)) (after-found 16777215 (k .first) (k .left) t (k .was)) (after-found 65535 (j .first) (j .left) (k .left) (j .was)))
 
 -- the end
-pub ends-found : (t : List ℕ) → ends t ≡ true → t ≡ 10 ∷ []
+ends-found : (t : List ℕ) → ends t ≡ true → t ≡ 10 ∷ []
 unfolding ends begins when
 ends-found [] e = let z : _≡_ {A = ℕ} 0 1 = cc in absurd (omega arith)
 ends-found (x ∷ []) e = rw (eqb-true x 10 (both _ _ e .0))
@@ -171,16 +171,14 @@ sections-found t s rest h =
     moved (Read t) (d .then)
     (script-text t (k .left) (f .left) (d .left) (k .first) (f .first) (d .first) (settings-found t (k .first) (k .left) (k .was)) (counted-found 8192 (k .left) (f .first) (f .left) (f .was)) (counted-found 255 (f .left) (d .first) (d .left) (d .was)))
 
+-- what a whole text is was found in front of its end
+pub whole-found : {A : Type 0} (m : Found A) (a : A) → wholeText m ≡ some a → m ≡ found a (10 ∷ [])
+whole-found nothing a e = let z : _≡_ {A = ℕ} 0 1 = cc in absurd (omega arith)
+whole-found (found x rest) a e =
+    either (ends rest)
+    (λ b. let p : x ≡ a = cc (simp (whens, b) at e) in rw (p, ends-found rest b))
+    (λ b. let q : none ≡ some a = simp (whens, b) at e in let z : _≡_ {A = ℕ} 0 1 = cc in absurd (omega arith))
+
 pub read-right : (t : List ℕ) (s : Script) → scriptOf t ≡ some s → Right s × (t ≡ textOf s)
 unfolding scriptOf
-read-right t s h = go (scriptBody t) (sections-found t) h
-  where
-    go : (m : Found Script) → ((s : Script) (rest : List ℕ) → m ≡ found s rest → Read t s rest) → wholeScript m ≡ some s → Right s × (t ≡ textOf s)
-    go nothing f e = let z : _≡_ {A = ℕ} 0 1 = cc in absurd (omega arith)
-    go (found x rest) f e =
-        either (ends rest)
-        (λ b.
-        let p : x ≡ s = cc (simp (whens, b) at e) in
-        let r = f x rest refl in
-        rw (← p) (r .right, r .text (ends-found rest b)))
-        (λ b. let q : none ≡ some s = simp (whens, b) at e in let z : _≡_ {A = ℕ} 0 1 = cc in absurd (omega arith))
+read-right t s h = let r = sections-found t s (10 ∷ []) (whole-found (scriptBody t) s h) in (r .right, r .text refl)

@@ -77,11 +77,11 @@ scriptBody t =
     (λ s t₁. thenRead (countedOctets maxFile t₁) (λ file t₂. thenRead (countedOctets maxDamage t₂)
     (λ damage t₃. found (record { object = s .object; nof = s .nof; file = file; damage = damage }) t₃)))
 
--- a script that its text ends
-abbrev pub wholeScript : Found Script → Option Script
-wholeScript nothing = none
-wholeScript (found s rest) = when (ends rest) (some s) none
+-- what was found, where the text ends behind it
+abbrev pub wholeText : {A : Type 0} → Found A → Option A
+wholeText nothing = none
+wholeText (found a rest) = when (ends rest) (some a) none
 
 -- the script that a whole text is
 unfoldable pub scriptOf : List ℕ → Option Script
-scriptOf t = wholeScript (scriptBody t)
+scriptOf t = wholeText (scriptBody t)

@@ -1,12 +1,12 @@
 -- The sections named so far stand in front of the rest of the part as it was.
-use Prim.Native.Nat.{ℕ, _≤_, _-_}
+use Prim.Native.Nat.{_≤_, _-_}
 use mathlib.Core.Path.{_≡_, refl, _∙_}
-use mathlib.Core.List.{List, _++_, map}
+use mathlib.Core.List.{_++_, map}
 use native.Mathlib.Nat.{mod-lt}
 use native.Mathlib.Omega.{arith}
 use borrow.Author.Needs.{needs}
 use lib.ListN.{length, take, drop, getD, length-set, length-map}
-use Rattle.generator.specs.Load.{naming}
+use Rattle.generator.specs.Filling.{naming}
 use Rattle.generator.proofs.Fronts.{all-written, map-next}
 use Rattle.generator.proofs.name_sections.Statement.{statement}
 use Rattle.generator.proofs.name_sections.Tie as tie

@@ -1,7 +1,7 @@
 use mathlib.Core.Path.{ap, _∙_}
 use mathlib.Core.List.{map}
 use borrow.Author.Needs.{needs}
-use Rattle.generator.specs.Load.{naming}
+use Rattle.generator.specs.Filling.{naming}
 use Rattle.generator.proofs.Generator.fill_named.Statement.{statement}
 use Rattle.generator.proofs.Generator.fill_named.Tie as tie
 

@@ -1,4 +1,3 @@
-use native.Mathlib.Omega.{arith}
 use borrow.Author.Needs.{needs}
 use Rattle.generator.specs.Sequence.{stepped}
 use Rattle.generator.proofs.Generator.step.Statement.{statement}

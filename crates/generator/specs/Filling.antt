@@ -34,7 +34,8 @@ fileAfter g file = unless (leb (length file) maxLength) file (octetsFrom (length
 
 -- ---- a damage list
 
--- how many sections of a file of n octets are not empty: all that hold them, and none of an empty file
+-- how many sections of a file of n octets are not empty: as many as hold the octets, so none of an empty file
+-- (section k has octets exactly for k from 1 to this number: `counted-has` and `uncounted-empty`, proofs/Named.antt)
 unfoldable pub nonEmptySections : ℕ → ℕ
 nonEmptySections n = divCeil n (sectionLength n)
 
