@@ -2,6 +2,7 @@
 // generator of 32 bits steps, and the octet of each new state is the next of a sequence. The sequence
 // fills a lent file, or a lent damage list by the sections of a file that have octets.
 use asdu::FtError;
+use asdu::Lof;
 use counts::least;
 use sections::section_count;
 ghost use mathlib.Core.Path.{_≡_};
@@ -21,9 +22,7 @@ const STATES: u64 = 0x1_0000_0000;
 
 const STATES_OF_AN_OCTET: u32 = 0x100_0000;
 
-// The most octets of a file, and the most places of a damage list that are filled.
-const MAX_FILE: usize = 0xFF_FFFF;
-
+// The most places of a damage list that are filled.
 const MAX_DAMAGE: usize = 255;
 
 // A generator, by its state.
@@ -100,7 +99,8 @@ impl Generator {
     pub fn fill_file(self, file: &mut [u8]) -> FileResult
         ensures { λ r. ⌜ (r ≡ fileAnswer self (now (file .entry))) × (now (file .exit) ≡ fileAfter self (now (file .entry))) ⌝ }
     {
-        if MAX_FILE < file.len() {
+        let longest = Lof::MAX as usize;
+        if longest < file.len() {
             return FileResult::Err(FtError::FileTooLong);
         }
         FileResult::Ok(self.fill(file))
@@ -121,7 +121,8 @@ impl Generator {
     pub fn fill_damage(self, file_len: usize, list: &mut [u8]) -> DamageResult
         ensures { λ r. ⌜ (r ≡ damageAnswer self «file_len» (now (list .entry))) × (now (list .exit) ≡ damageAfter self «file_len» (now (list .entry))) ⌝ }
     {
-        if MAX_FILE < file_len {
+        let longest = Lof::MAX as usize;
+        if longest < file_len {
             return DamageResult::Err(FtError::FileTooLong);
         }
         if file_len == 0 {

@@ -22,6 +22,7 @@ pub fill-damage-spec : {M : Type 1} → statement M
 fill-damage-spec =
     tie.close
     (tie.spec
+    (λ c. search needs)
     (λ c. let a = c .before .before .args in list-refused (a .self) (a .file-len) (a .list .now) (c .if1 .taken))
     (λ c. let a = c .before .before .before .args in list-none (a .self) (a .file-len) (a .list .now) (c .if2 .taken))
     (λ c κs. search needs)

@@ -18,6 +18,7 @@ pub fill-file-spec : {M : Type 1} → statement M
 fill-file-spec =
     tie.close
     (tie.spec
+    (λ c. search needs)
     (λ c. file-refused (c .before .before .args .self) (c .before .before .args .file .now) (c .if1 .taken))
     (λ c κs. search needs)
     (λ c. search needs)
