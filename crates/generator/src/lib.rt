@@ -87,8 +87,9 @@ impl Generator {
         let mut generator = self;
         let mut i = 0;
         while i < part.len() {
-            generator = generator.step();
-            part[i] = generator.octet();
+            let next = generator.step();
+            part[i] = next.octet();
+            generator = next;
             i += 1;
         }
         generator

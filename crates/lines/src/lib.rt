@@ -1,5 +1,5 @@
 // One line of what a transfer prints of a frame (document 01, A transfer script): its sender's letter,
-// its type, section, qualifier and checksum.
+// its type, section, qualifier and checksum. A number can be put into any text.
 use exchange::Sender;
 use frame::Frame;
 ghost use mathlib.Core.Path.{_≡_};

@@ -22,7 +22,8 @@ use Rattle.load_script.specs.declared.Load.{Load}
 use Rattle.load_script.proofs.Filling.{file-length}
 use Rattle.load_script.proofs.Right.{script-right, load-script-read, load-damage-named}
 
-abbrev settings : Settings
+-- what the transfer program gives a run of such a script
+abbrev pub settings : Settings
 settings = settingsWith object (record { value = name })
 
 load-accepted : (l : Load) → Within l → (store : List ℕ) → l .octets ≤ length store → Accepted settings (fileOf l) (damageOf l) store

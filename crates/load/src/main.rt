@@ -12,7 +12,7 @@ fn refused(error: FtError) {
     io::write_all(STDOUT_FILENO, b"\n");
 }
 
-// The first octets of a buffer.
+// Prints the first octets of a buffer.
 fn print(text: &[u8; 65536], length: usize) {
     io::write_all(STDOUT_FILENO, sections::cut(text, 0, length));
 }

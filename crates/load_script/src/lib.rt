@@ -19,12 +19,8 @@ ghost use Rattle.lines.specs.Putting.{Put};
 ghost use Rattle.load_script.specs.Load.{loadOf, object, name, afterFile, fileOf, damageOf, scriptWith, scriptFor};
 ghost use Rattle.load_script.specs.Answers.{readAs, answerOf, textAfter};
 
-// The largest state, the most octets of a script's file, and the most entries of its damage.
+// The largest state.
 const MAX_STATE: u32 = 0xFFFF_FFFF;
-
-const MAX_FILE: u32 = 8192;
-
-const MAX_DAMAGE: u32 = 255;
 
 // The object address and the name of the file, as document 01's worked script has them.
 const OBJECT: u32 = 100;
@@ -59,7 +55,7 @@ fn read_load(text: &[u8]) -> LoadRead
     let Reading::Number { value: state, next } = first else {
         return LoadRead::Nothing;
     };
-    let second = read::after_at(text, next, MAX_FILE);
+    let second = read::after_at(text, next, read::MAX_FILE);
     let Reading::Number {
         value: octets,
         next,
@@ -67,7 +63,7 @@ fn read_load(text: &[u8]) -> LoadRead
     else {
         return LoadRead::Nothing;
     };
-    let third = read::after_at(text, next, MAX_DAMAGE);
+    let third = read::after_at(text, next, read::MAX_DAMAGE);
     let Reading::Number {
         value: entries,
         next,

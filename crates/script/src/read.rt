@@ -18,9 +18,9 @@ const MAX_OBJECT: u32 = 0xFF_FFFF;
 const MAX_NAME: u32 = 0xFFFF;
 
 // The most octets of a file, and the most sections that its damage names.
-const MAX_FILE: u32 = 8192;
+pub const MAX_FILE: u32 = 8192;
 
-const MAX_DAMAGE: u32 = 255;
+pub const MAX_DAMAGE: u32 = 255;
 
 const MAX_OCTET: u32 = 255;
 
