@@ -6,12 +6,15 @@ use mathlib.Core.List.{List, [], _∷_}
 use native.Mathlib.Numerals.{add-one}
 use native.Mathlib.Omega.{arith}
 use lib.Dec.{ltb}
-use lib.ListN.{length, drop, getD, drop-of-length-le}
+use lib.ListN.{length, drop, getD, drop-of-length-le, length-drop}
 use lib.Seq.{drop-cons, drop-drop}
 use borrow.Author.Tests.{ltb-true, ltb-false, leb-true, le-leb, lt-leb, ne-eqb}
 use Rattle.laws.proofs.Decide.{whens, when-true}
 use Rattle.asdu.proofs.Range.{both}
 use Rattle.script.specs.Reader.{nothing, found, begins, beginsDigit, more, number, spacedNumber}
+use Rattle.script.specs.Places.{foundAt, Inside}
+use Rattle.script.specs.declared.read.Reading.{Reading}
+use Rattle.script.specs.declared.read.Reading.the-variants as R
 
 no-digit : beginsDigit [] ≡ false
 unfolding beginsDigit
@@ -75,3 +78,15 @@ pub more-over : (limit v : ℕ) (t : List ℕ) → limit < v → more limit v t 
 unfolding more
 more-over limit v [] h = simp (whens, lt-leb _ _ h)
 more-over limit v (x ∷ t) h = simp (whens, lt-leb _ _ h)
+
+-- a reading within the text is told by what was found
+pub one-reading : (text : List ℕ) (r s : Reading) → foundAt text r ≡ foundAt text s → Inside text r → Inside text s → r ≡ s
+one-reading text (R.Number v n) (R.Number w k) e i j =
+    let values : v ≡ w = cc in
+    let rests : drop n text ≡ drop k text = cc in
+    let lengths : length text - n ≡ length text - k = sym (length-drop n text) ∙ ap length rests ∙ length-drop k text in
+    let places : n ≡ k = omega arith in
+    rw (values, places)
+one-reading text (R.Number v n) R.Nothing e i j = let z : _≡_ {A = ℕ} 0 1 = cc in absurd (omega arith)
+one-reading text R.Nothing (R.Number w k) e i j = let z : _≡_ {A = ℕ} 0 1 = cc in absurd (omega arith)
+one-reading text R.Nothing R.Nothing e i j = refl

@@ -1,4 +1,4 @@
--- How the reader's own functions say what they found: by places in the text. Only these cite it; what reading answers is in Answers.antt.
+-- How the reader's functions say what they found: by places in the text. What reading a script answers is in Answers.antt.
 use Prim.Native.Nat.{ℕ, _≤_}
 use mathlib.Core.Path.{_≡_}
 use mathlib.Core.Option.{Option, none, some}
@@ -16,6 +16,11 @@ use Rattle.script.specs.declared.read.SettingsRead.the-variants as S
 abbrev pub foundAt : List ℕ → Reading → Found ℕ
 foundAt text (R.Number value next) = found value (drop next text)
 foundAt text R.Nothing = nothing
+
+-- its place is within the text: so the reading is told by what was found (`one-reading`, proofs/ReaderLaws.antt)
+abbrev pub Inside : List ℕ → Reading → Type 0
+Inside text (R.Number value next) = next ≤ length text
+Inside text R.Nothing = Unit {0}
 
 -- so many octets found, in front of a buffer
 abbrev pub octetsAt : List ℕ → List ℕ → Reading → Found (List ℕ)

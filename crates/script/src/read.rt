@@ -10,7 +10,7 @@ ghost use Prim.Native.Nat.{_-_, _≤_, _<_};
 ghost use lib.ListN.{length, drop, getD};
 ghost use Rattle.script.specs.Reader.{begins, beginsDigit, more, number, spacedNumber, numbers, countedOctets, settings, ends, scriptOf};
 ghost use Rattle.script.specs.Answers.{answerOf, fileAfter, damageAfter};
-ghost use Rattle.script.specs.Places.{foundAt, octetsAt, Kept, settingsAt, Filled};
+ghost use Rattle.script.specs.Places.{foundAt, Inside, octetsAt, Kept, settingsAt, Filled};
 
 // The largest object address that three octets hold, and the largest name of a file.
 const MAX_OBJECT: u32 = 0xFF_FFFF;
@@ -69,7 +69,8 @@ fn digit_at(text: &[u8], at: usize) -> u32
 
 // The number whose digits before the place make first. A digit more than any limit has is within 64 bits.
 fn more_at(text: &[u8], at: usize, limit: u32, first: u32) -> Reading
-    ensures { λ r. ⌜ foundAt (now (text .entry)) r ≡ more limit first (drop at (now (text .entry))) ⌝ }
+    requires { ⌜ at ≤ length (now text) ⌝ }
+    ensures { λ r. ⌜ (foundAt (now (text .entry)) r ≡ more limit first (drop at (now (text .entry)))) × Inside (now (text .entry)) r ⌝ }
 {
     let mut value = first as u64;
     let mut next = at;
@@ -89,9 +90,9 @@ fn more_at(text: &[u8], at: usize, limit: u32, first: u32) -> Reading
     Reading::Nothing
 }
 
-// A number to its limit.
+// A number to its limit, and the place after it, which is within the text.
 pub fn number_at(text: &[u8], at: usize, limit: u32) -> Reading
-    ensures { λ r. ⌜ foundAt (now (text .entry)) r ≡ number limit (drop at (now (text .entry))) ⌝ }
+    ensures { λ r. ⌜ (foundAt (now (text .entry)) r ≡ number limit (drop at (now (text .entry)))) × Inside (now (text .entry)) r ⌝ }
 {
     if is_digit_at(text, at) {
         let first = digit_at(text, at);
@@ -102,7 +103,7 @@ pub fn number_at(text: &[u8], at: usize, limit: u32) -> Reading
 
 // A number after one space.
 pub fn after_at(text: &[u8], at: usize, limit: u32) -> Reading
-    ensures { λ r. ⌜ foundAt (now (text .entry)) r ≡ spacedNumber limit (drop at (now (text .entry))) ⌝ }
+    ensures { λ r. ⌜ (foundAt (now (text .entry)) r ≡ spacedNumber limit (drop at (now (text .entry)))) × Inside (now (text .entry)) r ⌝ }
 {
     if is_at(text, at, b' ') {
         return number_at(text, at + 1, limit);

@@ -10,7 +10,7 @@ use Rattle.script.proofs.read.after_at.Tie as tie
 returns : tie.Need-returns
 returns c =
     let a = c .before .before .before .before .args in
-    c .number-at .ensures ∙ sym (after-here (a .text .now) (a .at) _ (yes (c .before .before .is-at .ensures) (c .before .if1 .taken)))
+    (c .number-at .ensures .0 ∙ sym (after-here (a .text .now) (a .at) _ (yes (c .before .before .is-at .ensures) (c .before .if1 .taken))), c .number-at .ensures .1)
 
 pub after-at-spec : {M : Type 1} → statement M
 unfolding spacedNumber
@@ -24,4 +24,4 @@ after-at-spec =
     omega arith)
     (λ c κs. search needs)
     returns
-    (λ c. simp (whens, nay (c .before .is-at .ensures) (c .if1 .left))))
+    (λ c. (simp (whens, nay (c .before .is-at .ensures) (c .if1 .left)), tt)))

@@ -10,7 +10,7 @@ returns : tie.Need-returns
 returns c =
     let b = c .before .before .before in
     let a = b .before .before .args in
-    c .more-at .ensures ∙ rw (c .before .digit-at .ensures .0) (sym (number-here (a .text .now) (a .at) _ (yes (b .is-digit-at .ensures) (c .before .before .if1 .taken))))
+    (c .more-at .ensures .0 ∙ rw (c .before .digit-at .ensures .0) (sym (number-here (a .text .now) (a .at) _ (yes (b .is-digit-at .ensures) (c .before .before .if1 .taken)))), c .more-at .ensures .1)
 
 pub number-at-spec : {M : Type 1} → statement M
 unfolding number
@@ -22,4 +22,4 @@ number-at-spec =
     (λ c. search needs)
     (λ c κs. search needs)
     returns
-    (λ c. simp (whens, nay (c .before .is-digit-at .ensures) (c .if1 .left))))
+    (λ c. (simp (whens, nay (c .before .is-digit-at .ensures) (c .if1 .left)), tt)))

@@ -24,13 +24,13 @@ returns : tie.Need-returns Inv-loop μ-loop
 returns c =
     let a = c .before .before in
     let l = a .before .before in
-    let e = rw (c .enum-told .given .1) at (a .after-at .ensures) in
+    let e = rw (c .enum-told .given .1) at (a .after-at .ensures .0) in
     (numbers-off (l .before .before .before .args .count) (l .loop .i) (a .before .loop-test .taken) (take (l .loop .i) (l .loop .out)) (drop (l .loop .next) (l .before .before .before .args .text .now)) e ∙ l .loop .inv .3, tt)
 
 cast-out : tie.Need-cast-out Inv-loop μ-loop
 cast-out c =
     let a = c .before .before .before in
-    let e = rw (c .before .reading .given .1) at (a .after-at .ensures) in
+    let e = rw (c .before .reading .given .1) at (a .after-at .ensures .0) in
     let h = after-found 255 _ _ _ (sym e) .0 in
     omega arith
 
@@ -40,7 +40,7 @@ loop-again c =
     let l = a .before .before in
     let p = l .before .before .before .args in
     let x = c .before .reading .given .0 .0 in
-    let e = rw (c .before .reading .given .1) at (a .after-at .ensures) in (
+    let e = rw (c .before .reading .given .1) at (a .after-at .ensures .0) in (
       search needs,
       rw length-set (l .loop .inv .1),
       kept-on (p .out .now) (l .loop .out) (l .loop .i) x (l .loop .inv .2),

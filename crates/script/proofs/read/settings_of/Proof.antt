@@ -19,7 +19,7 @@ settings-of-spec =
     (λ c. search needs)
     (λ c.
     let a = c .before .before in
-    let e = rw (c .enum-told .given .1) at (a .after-at .ensures) in
+    let e = rw (c .enum-told .given .1) at (a .after-at .ensures .0) in
     simp (whens, yes-by-not (a .before .before .is-at .ensures) (a .before .if1 .left), ← e))
     (λ c κs. search needs)
     (λ c. search needs)
@@ -28,17 +28,17 @@ settings-of-spec =
     let n = c .before .before in
     let o = n .before .before in
     let a = o .before .before in
-    let e = rw (o .object .given .1) at (a .after-at .ensures) in
-    let f = rw (c .enum-told2 .given .1) at (n .after-at2 .ensures) in
+    let e = rw (o .object .given .1) at (a .after-at .ensures .0) in
+    let f = rw (c .enum-told2 .given .1) at (n .after-at2 .ensures .0) in
     simp (whens, yes-by-not (a .before .before .is-at .ensures) (a .before .if1 .left), ← e, ← f))
     (λ c.
-    let f = rw (c .before .name .given .1) at (c .before .before .before .after-at2 .ensures) in
+    let f = rw (c .before .name .given .1) at (c .before .before .before .after-at2 .ensures .0) in
     let h = after-found _ _ _ _ (sym f) .0 in
     omega arith)
     (λ c.
     let n = c .before .before .before in
     let o = n .before .before in
     let a = o .before .before in
-    let e = rw (o .object .given .1) at (a .after-at .ensures) in
-    let f = rw (c .before .name .given .1) at (n .after-at2 .ensures) in
+    let e = rw (o .object .given .1) at (a .after-at .ensures .0) in
+    let f = rw (c .before .name .given .1) at (n .after-at2 .ensures .0) in
     simp (whens, yes-by-not (a .before .before .is-at .ensures) (a .before .if1 .left), ← e, ← f)))
