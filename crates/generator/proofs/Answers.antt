@@ -12,6 +12,7 @@ use Rattle.asdu.specs.declared.FtError.{FtError}
 use Rattle.asdu.specs.declared.FtError.the-variants.{FileTooLong}
 use Rattle.sections.specs.Sections.{sectionLength, sectionCount}
 use Rattle.sections.proofs.Cuts.{length-least}
+use Rattle.sections.proofs.SectionLaws.{some-section}
 use Rattle.generator.specs.Sequence.{stateAfter, octetsFrom}
 use Rattle.generator.specs.Filling.{maxLength, afterSteps, fileAnswer, fileAfter, nonEmptySections, naming, placesFilled, entriesFrom, damageAnswer, damageAfter}
 use Rattle.generator.specs.declared.Generator.{Generator}
@@ -43,6 +44,9 @@ all-sections n h =
     let least = length-least n in
     let one : 0 < divCeil n (sectionLength n) = some _ (sectionLength n) n h (ceil-enough n (sectionLength n) (omega arith)) in
     omega arith
+
+pub some-non-empty : (n : ℕ) → 0 < n → 0 < nonEmptySections n
+some-non-empty n h = rw (← (all-sections n h)) (some-section n)
 
 module _ (g : Generator) (n : ℕ) (list : List ℕ) where
   pub list-refused : maxLength < n → (D.Err FileTooLong ≡ damageAnswer g n list) × (list ≡ damageAfter g n list)

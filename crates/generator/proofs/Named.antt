@@ -13,12 +13,11 @@ use Rattle.lists.specs.Parts.{divCeil}
 use Rattle.lists.proofs.Parts.{ceil-enough, ceil-least}
 use Rattle.sections.specs.Sections.{sectionLength}
 use Rattle.sections.proofs.Cuts.{length-least}
-use Rattle.sections.proofs.SectionLaws.{some-section}
 use Rattle.radio.specs.Radio.{hasOctets, allHaveOctets}
 use Rattle.radio.proofs.Damage.{begins-within}
 use Rattle.generator.specs.Sequence.{octetsFrom}
 use Rattle.generator.specs.Filling.{nonEmptySections, naming, placesFilled, entriesFrom}
-use Rattle.generator.proofs.Answers.{all-sections}
+use Rattle.generator.proofs.Answers.{some-non-empty}
 
 -- section j + 1 of so many begins within the file
 within : (n j : ℕ) → suc j ≤ nonEmptySections n → j * sectionLength n < n
@@ -30,7 +29,7 @@ within n j h =
     omega arith
 
 module _ (file : List ℕ) where
-  -- the sections counted are those with octets: each of them has some
+  -- the sections counted, from 1 on, are those with octets: each of them has some
   pub counted-has : (j : ℕ) → suc j ≤ nonEmptySections (length file) → hasOctets (sectionLength (length file)) file (suc j) ≡ true
   counted-has j h =
       let least = length-least (length file) in
@@ -38,7 +37,7 @@ module _ (file : List ℕ) where
       sym (begins-within (sectionLength (length file)) file (suc j) (λ z. omega arith) (λ z. omega arith))
       ∙ rw e (lt-ltb _ _ (within (length file) j h))
 
-  -- and no other has any
+  -- and none past them has any; nor has section 0 (`none-named`, radio/proofs/Damage.antt)
   pub uncounted-empty : (nos : ℕ) → nonEmptySections (length file) < nos → hasOctets (sectionLength (length file)) file nos ≡ false
   unfolding nonEmptySections
   uncounted-empty nos h =
@@ -51,9 +50,8 @@ module _ (file : List ℕ) where
     entry-has : (octet : ℕ) → hasOctets (sectionLength (length file)) file (naming (nonEmptySections (length file)) octet) ≡ true
     unfolding naming
     entry-has octet =
-        let positive : 0 < nonEmptySections (length file) = rw (← (all-sections (length file) some)) (some-section (length file)) in
         let e : octet % nonEmptySections (length file) + 1 ≡ suc (octet % nonEmptySections (length file)) = omega arith in
-        rw e (counted-has (octet % nonEmptySections (length file)) (mod-lt octet positive))
+        rw e (counted-has (octet % nonEmptySections (length file)) (mod-lt octet (some-non-empty (length file) some)))
 
     entries-have : (octets : List ℕ) → allHaveOctets (sectionLength (length file)) file (map (naming (nonEmptySections (length file))) octets) ≡ true
     entries-have [] = refl

@@ -11,7 +11,7 @@ use borrow.Author.Tests.{leb-true, le-leb}
 use Rattle.laws.specs.When.{when}
 use Rattle.laws.proofs.Decide.{whens}
 use Rattle.store.specs.Store.{written}
-use Rattle.lines.specs.Numbers.{hasRoom, placeAfter, textAfter}
+use Rattle.lines.specs.Numbers.{hasRoom, placeAfter, textWith}
 use Rattle.lines.specs.Putting.{Put}
 use Rattle.lines.proofs.Writing.{put-front}
 
@@ -33,24 +33,24 @@ module _ {xs ys : List ℕ} {n : ℕ} {p : List ℕ} (f : Put xs 0 p n ys) where
     unfolding hasRoom
     room = rw (from-place, front-put) at (said .0)
 
-    text-put : after ≡ textAfter text place p
-    unfolding textAfter
+    text-put : after ≡ textWith text place p
+    unfolding textWith
     text-put = rw (from-place, front-put, room) at (said .1)
 
     pub room-fits : b ≡ true → place + n ≤ length text
     unfolding hasRoom
     room-fits t = rw (put-front f .0) (leb-true _ _ (sym room ∙ t))
 
-    pub number-put : b ≡ true → (place + n ≡ placeAfter text place p) × (after ≡ textAfter text place p)
+    pub number-put : b ≡ true → (place + n ≡ placeAfter text place p) × (after ≡ textWith text place p)
     unfolding placeAfter
     number-put t = (simp (whens, sym room ∙ t, put-front f .0), text-put)
 
-    pub number-left : b ≡ false → (place ≡ placeAfter text place p) × (after ≡ textAfter text place p)
+    pub number-left : b ≡ false → (place ≡ placeAfter text place p) × (after ≡ textWith text place p)
     unfolding placeAfter
     number-left t = (simp (whens, sym room ∙ t), text-put)
 
 -- where there is room, a number is put
-pub put-with-room : {text after : List ℕ} {place next : ℕ} {p : List ℕ} → (next ≡ placeAfter text place p) × (after ≡ textAfter text place p)
+pub put-with-room : {text after : List ℕ} {place next : ℕ} {p : List ℕ} → (next ≡ placeAfter text place p) × (after ≡ textWith text place p)
     → place + length p ≤ length text → Put text place p next after
-unfolding hasRoom placeAfter textAfter
+unfolding hasRoom placeAfter textWith
 put-with-room said h = record { end = said .0 ∙ simp (whens, le-leb _ _ h); text = said .1 ∙ simp (whens, le-leb _ _ h) }

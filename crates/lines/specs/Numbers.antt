@@ -1,4 +1,4 @@
--- Octets put into a text from a place on, where it has room for them; elsewhere nothing is put.
+-- Octets put into a text from a place on, where it has room for them, and else none: for the script of a test load (document 02, A2).
 use Prim.Native.Nat.{ℕ, _+_}
 use mathlib.Core.Bool.{Bool}
 use mathlib.Core.List.{List}
@@ -10,9 +10,9 @@ use Rattle.store.specs.Store.{written}
 unfoldable pub hasRoom : List ℕ → ℕ → List ℕ → Bool
 hasRoom text place octets = leb (place + length octets) (length text)
 
--- the place after them
+-- the place after what was put
 unfoldable pub placeAfter : List ℕ → ℕ → List ℕ → ℕ
 placeAfter text place octets = when (hasRoom text place octets) (place + length octets) place
 
-unfoldable pub textAfter : List ℕ → ℕ → List ℕ → List ℕ
-textAfter text place octets = when (hasRoom text place octets) (written text place octets) text
+unfoldable pub textWith : List ℕ → ℕ → List ℕ → List ℕ
+textWith text place octets = when (hasRoom text place octets) (written text place octets) text

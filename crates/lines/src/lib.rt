@@ -9,7 +9,7 @@ ghost use lib.ListN.{length};
 ghost use Rattle.exchange.specs.Lines.{sideOf, namedSection, qualifier, statedSum};
 ghost use Rattle.script.specs.Decimal.{decimal};
 ghost use Rattle.lines.specs.LineText.{letterOf, fieldsText, lineText};
-ghost use Rattle.lines.specs.Numbers.{placeAfter, textAfter};
+ghost use Rattle.lines.specs.Numbers.{placeAfter, textWith};
 ghost use Rattle.lines.specs.Putting.{Put};
 ghost use Rattle.script.specs.Answers.{over};
 
@@ -101,10 +101,10 @@ fn put_field(out: &mut [u8], at: usize, n: u32) -> usize
     put_decimal(out, next, n)
 }
 
-// Puts a number after one space into a text, and answers the place after it; where the text has no room
-// for it there, nothing is put, and the answer is the place itself.
+// Puts a number after one space into a text, if it has room for both there, and answers the place after
+// what it put: the same place where that is nothing.
 pub fn put_number(out: &mut [u8], at: usize, n: u32) -> usize
-    ensures { λ r. ⌜ (r ≡ placeAfter (now (out .entry)) at (32 ∷ decimal n)) × (now (out .exit) ≡ textAfter (now (out .entry)) at (32 ∷ decimal n)) ⌝ }
+    ensures { λ r. ⌜ (r ≡ placeAfter (now (out .entry)) at (32 ∷ decimal n)) × (now (out .exit) ≡ textWith (now (out .entry)) at (32 ∷ decimal n)) ⌝ }
 {
     let mut field = [0u8; 16];
     let length = put_field(&mut field, 0, n);

@@ -9,14 +9,14 @@ use native.Mathlib.Omega.{arith}
 use lib.ListN.{length}
 use Rattle.laws.specs.When.{when}
 use Rattle.sections.specs.Sections.{sectionLength}
-use Rattle.sections.proofs.SectionLaws.{some-section, few-sections}
+use Rattle.sections.proofs.SectionLaws.{few-sections}
 use Rattle.radio.specs.Radio.{allHaveOctets}
 use Rattle.script.specs.Script.{Octets, Right, textOf}
 use Rattle.script.specs.Reader.{scriptOf}
 use Rattle.script.proofs.Meaning.{right-read}
 use Rattle.generator.specs.Sequence.{stepped, octetOf, octetsFrom}
 use Rattle.generator.specs.Filling.{nonEmptySections, naming, placesFilled, entriesFrom}
-use Rattle.generator.proofs.Answers.{all-sections}
+use Rattle.generator.proofs.Answers.{all-sections, some-non-empty}
 use Rattle.generator.proofs.Named.{damage-named}
 use Rattle.load_script.specs.Load.{Within, fileOf, afterFile, damageOf, scriptFor}
 use Rattle.load_script.specs.declared.Load.{Load}
@@ -34,8 +34,7 @@ unfolding naming
 named-right n h [] = tt
 named-right n h (x ∷ xs) =
     let all = all-sections n h in
-    let some : 0 < nonEmptySections n = omega (arith, some-section n) in
-    let below = mod-lt x some in
+    let below = mod-lt x (some-non-empty n h) in
     (omega (arith, few-sections n), named-right n h xs)
 
 entries-right : (n places s : ℕ) → Octets (entriesFrom n (placesFilled n places) s)

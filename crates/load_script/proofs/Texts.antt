@@ -8,7 +8,7 @@ use lib.ListN.{length, take, getD, take-append-drop}
 use lib.Seq.{take-suc}
 use Rattle.store.specs.Store.{written}
 use Rattle.script.specs.Decimal.{decimal, spaced}
-use Rattle.lines.specs.Numbers.{placeAfter, textAfter}
+use Rattle.lines.specs.Numbers.{placeAfter, textWith}
 use Rattle.lines.specs.Putting.{Put}
 use Rattle.lines.proofs.Writing.{put-then, digits-most}
 use Rattle.lines.proofs.Numbers.{put-with-room}
@@ -29,7 +29,7 @@ spaced-next xs i h = rw (add-one, take-suc xs i 0 h, spaced-append) (simp append
 
 -- a number of at most four digits takes five octets at most
 pub count-put : {xs ys : List ℕ} {at next k : ℕ} → k ≤ 9999 → at + 5 ≤ length xs
-    → (next ≡ placeAfter xs at (32 ∷ decimal k)) × (ys ≡ textAfter xs at (32 ∷ decimal k))
+    → (next ≡ placeAfter xs at (32 ∷ decimal k)) × (ys ≡ textWith xs at (32 ∷ decimal k))
     → (next ≤ at + 5) × Put xs at (32 ∷ decimal k) next ys
 count-put {xs} {ys} {at} {next} {k} small room said =
     let few = digits-most 3 k (omega arith) in
