@@ -1,4 +1,4 @@
--- Document 01's number of each refusal: 1 to 11 because of the input, 21 to 26 because of the state.
+-- The number of each refusal. Document 01: 1 to 11 because of the input, 21 to 26 because of the state. Document 02, A3: 27 and 28, of a directory page to print.
 use Prim.Native.Nat.{ℕ}
 use Rattle.asdu.specs.declared.FtError.{FtError}
 use Rattle.asdu.specs.declared.FtError.the-variants as E
@@ -21,3 +21,5 @@ numberOf E.EchoMismatch = 23
 numberOf E.StoreFull = 24
 numberOf E.DirectoryFull = 25
 numberOf E.RecordMismatch = 26
+numberOf E.NotPrintable = 27
+numberOf E.PageTooShort = 28

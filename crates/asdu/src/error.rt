@@ -1,10 +1,11 @@
-// Every numbered refusal of document 01, one case each: Rust's AsduError and FtError in one.
+// Every numbered refusal of document 01 and of the requests of document 02 that are built, one case each:
+// Rust's AsduError and FtError in one, and those that are new.
 use crate::FtError;
 ghost use mathlib.Core.Path.{_≡_};
 ghost use Rattle.asdu.specs.Number.{numberOf};
 
 impl FtError {
-    // Document 01's number of the refusal.
+    // The document's number of the refusal.
     pub fn number(self) -> u8
         ensures { λ r. ⌜ r ≡ numberOf self ⌝ }
     {
@@ -26,6 +27,8 @@ impl FtError {
             FtError::StoreFull => 24,
             FtError::DirectoryFull => 25,
             FtError::RecordMismatch => 26,
+            FtError::NotPrintable => 27,
+            FtError::PageTooShort => 28,
         }
     }
 }

@@ -151,7 +151,7 @@ pub struct Cp56Time2a {
     pub years: u8,
 }
 
-// A numbered refusal of document 01; `number` gives its number.
+// A numbered refusal of document 01, or of a request of document 02; `number` gives its number.
 pub enum FtError {
     // Because of the input.
     FileTooLong,
@@ -172,6 +172,9 @@ pub enum FtError {
     StoreFull,
     DirectoryFull,
     RecordMismatch,
+    // Of a directory page to print (document 02, A3).
+    NotPrintable,
+    PageTooShort,
 }
 
 // The widths of a system: octets of the cause, of the common address and of an object address.
