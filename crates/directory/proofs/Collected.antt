@@ -19,7 +19,8 @@ use Rattle.asdu.specs.declared.Header.{Header}
 use Rattle.asdu.specs.declared.UnknownField.the-variants as U
 use Rattle.asdu.proofs.Octets.{thirteen}
 use Rattle.stored.specs.Stored.{entriesIn, anyLast, hasLast, storedFrom, pageStored, roomFor}
-use Rattle.stored.proofs.StoredLaws.{written-none, written-twice, written-long, entry-long}
+use Rattle.store.proofs.Written.{written-none, written-twice, written-long}
+use Rattle.stored.proofs.StoredLaws.{entry-long}
 use Rattle.frame.specs.Frames.{isFileType}
 use Rattle.frame.specs.Ranges.{valuesInRange}
 use Rattle.ft.specs.Directions.{otherRole}

@@ -1,11 +1,13 @@
 -- The decimal digits of a number, from the last digit backwards.
-use Prim.Native.Nat.{ℕ, zero, suc, _+_, _*_, _-_, _/_, _%_, _≤_, _<_}
+use Prim.Native.Nat.{ℕ, zero, suc, _+_, _*_, _-_, _/_, _%_, _^_, _≤_, _<_}
 use mathlib.Core.Bool.{Bool, true, false}
 use mathlib.Core.Path.{_≡_, refl, _∙_}
 use mathlib.Core.List.{[], _∷_, _++_}
+use native.Mathlib.Nat.{pow-succ'}
 use native.Mathlib.Omega.{arith}
 use lib.Dec.{leb}
-use borrow.Author.Tests.{leb-false, le-leb, lt-leb}
+use lib.ListN.{length, length-append}
+use borrow.Author.Tests.{leb-true, leb-false, le-leb, lt-leb}
 use Rattle.laws.proofs.Decide.{whens}
 use Rattle.script.specs.Decimal.{digitsWithin, decimal}
 
@@ -42,3 +44,14 @@ decimal-next v x h l m =
     let q : n / 10 ≡ v = omega arith in
     let r : 48 + n % 10 ≡ x = omega arith in
     decimal-more n (omega arith) ∙ simp (q, r)
+
+-- a number below a power of ten
+pub digits-most : (k n : ℕ) → n < 10 ^ suc k → length (decimal n) ≤ suc k
+digits-most zero n h = let s : n < 10 = h in rw (decimal-one n (omega arith)) (omega arith)
+digits-most (suc k) n h =
+    either (leb n 9) (λ e. rw (decimal-one n (leb-true _ _ e)) (omega arith))
+    (λ e.
+    let m : 9 < n = leb-false _ _ e in
+    let p : n < 10 * 10 ^ suc k = rw (pow-succ' 10 (suc k)) at h in
+    let i = digits-most k (n / 10) (omega arith) in
+    rw (decimal-more n m, length-append) (omega arith))

@@ -1,15 +1,16 @@
 -- Entries written into a store one after the other, and the last-file flag read at a place.
 use Prim.Native.Nat.{ℕ, zero, suc, _+_, _-_, _*_, _≤_, _<_}
-use mathlib.Core.Path.{_≡_, refl, ap, subst, _∙_}
+use mathlib.Core.Path.{_≡_, refl, _∙_}
 use mathlib.Core.Bool.{true}
 use mathlib.Core.List.{List, [], _++_, append-assoc, append-nil}
-use native.Mathlib.Nat.{add-assoc, add-zero, zero-add, suc-add}
+use native.Mathlib.Nat.{add-zero, zero-add, suc-add}
 use native.Mathlib.Omega.{arith}
-use lib.ListN.{length, take, drop, getD, length-append, length-take, length-drop, take-append-drop}
-use lib.Seq.{take-append-seam, take-append-add, drop-append-add, length-take-le, drop-drop, getD-take, getD-drop}
+use lib.ListN.{length, take, drop, getD, length-append, length-drop}
+use lib.Seq.{length-take-le, drop-drop, getD-take, getD-drop}
 use borrow.Author.Tests.{leb-true}
 use Rattle.laws.specs.When.{_or_}
 use Rattle.store.specs.Store.{written}
+use Rattle.store.proofs.Written.{written-twice}
 use Rattle.asdu.specs.Entry.{bitOf, sofOf, entryOf, entryAddress}
 use Rattle.stored.specs.Stored.{anyLast, addressOctets, storedEntry, storedFrom, roomFor}
 
@@ -17,36 +18,6 @@ use Rattle.stored.specs.Stored.{anyLast, addressOctets, storedEntry, sto
 pub room-is : (held more len : ℕ) → roomFor held more len ≡ true → 17 * (held + more) ≤ len
 unfolding roomFor
 room-is held more len e = leb-true _ _ e
-
--- ---- writing twice
-
-take-both : (x a r : List ℕ) (p : ℕ) → length x ≡ p → take (p + length a) (x ++ (a ++ r)) ≡ x ++ a
-take-both x a r p e =
-    subst (λ (k : ℕ). take (k + length a) (x ++ (a ++ r)) ≡ x ++ a) e
-    (take-append-add x (a ++ r) (length a) ∙ ap (λ (y : List ℕ). x ++ y) (take-append-seam a r))
-
-drop-both : (x a r : List ℕ) (p n : ℕ) → length x ≡ p → drop (p + length a + n) (x ++ (a ++ r)) ≡ drop n r
-drop-both x a r p n e =
-    subst (λ (k : ℕ). drop (k + length a + n) (x ++ (a ++ r)) ≡ drop n r) e (rw (add-assoc, drop-append-add, drop-append-add))
-
--- octets written behind others that were written are written with them
-pub written-twice : (s : List ℕ) (p : ℕ) (a b : List ℕ) → p + length a ≤ length s → written (written s p a) (p + length a) b ≡ written s p (a ++ b)
-unfolding written
-written-twice s p a b h =
-    let front : length (take p s) ≡ p = length-take-le p s (omega arith) in
-    let place : p + length a + length b ≡ p + length (a ++ b) = rw length-append (omega arith) in
-    let before : take (p + length a) (written s p a) ≡ take p s ++ a = take-both (take p s) a (drop (p + length a) s) p front in
-    let after : drop (p + length a + length b) (written s p a) ≡ drop (p + length (a ++ b)) s =
-    drop-both (take p s) a (drop (p + length a) s) p (length b) front ∙ drop-drop (length b) (p + length a) s ∙ ap (λ (k : ℕ). drop k s) place in
-    simp (before, after, append-assoc)
-
-pub written-none : (s : List ℕ) (p : ℕ) → written s p [] ≡ s
-unfolding written
-written-none s p = rw add-zero (take-append-drop p s)
-
-pub written-long : (s : List ℕ) (p : ℕ) (o : List ℕ) → p + length o ≤ length s → length (written s p o) ≡ length s
-unfolding written
-written-long s p o h = simp (length-append, length-take, length-drop) (omega arith)
 
 -- ---- entries in the store
 

@@ -7,7 +7,7 @@ use lib.ListN.{length, set, length-set}
 use Rattle.script.specs.Script.{textOf}
 use Rattle.script.proofs.Meaning.{spaced-append}
 use Rattle.lines.specs.Putting.{Put}
-use Rattle.lines.proofs.Writing.{written-one}
+use Rattle.store.proofs.Written.{written-one}
 use Rattle.load_script.proofs.Texts.{put-after}
 use Rattle.load_script.proofs.put_script.Statement.{statement}
 use Rattle.load_script.proofs.put_script.Tie as tie

@@ -5,7 +5,7 @@ use native.Mathlib.Omega.{arith}
 use lib.ListN.{length, set, length-set}
 use Rattle.script.proofs.Decimals.{decimal-one}
 use Rattle.lines.specs.Putting.{Put}
-use Rattle.lines.proofs.Writing.{written-one}
+use Rattle.store.proofs.Written.{written-one}
 use Rattle.load_script.proofs.Texts.{put-after, count-put}
 use Rattle.load_script.proofs.put_settings.Statement.{statement}
 use Rattle.load_script.proofs.put_settings.Tie as tie

@@ -6,7 +6,8 @@ use borrow.Author.Needs.{needs}
 use lib.ListN.{length, length-take, length-drop}
 use Rattle.store.specs.Store.{written}
 use Rattle.stored.specs.Stored.{entriesIn, storedFrom, pageStored}
-use Rattle.stored.proofs.StoredLaws.{written-none, written-long, stored-long, page-next}
+use Rattle.store.proofs.Written.{written-none, written-long}
+use Rattle.stored.proofs.StoredLaws.{stored-long, page-next}
 use Rattle.stored.proofs.write_entries.Statement.{statement}
 use Rattle.stored.proofs.write_entries.Tie as tie
 

@@ -10,7 +10,7 @@ use lib.ListN.{length}
 use Rattle.laws.proofs.Decide.{whens}
 use Rattle.store.specs.Store.{written}
 use Rattle.stored.specs.Stored.{addressOctets, storedEntry}
-use Rattle.stored.proofs.StoredLaws.{written-twice, written-long}
+use Rattle.store.proofs.Written.{written-twice, written-long}
 use Rattle.stored.proofs.write_entry.Statement.{statement}
 use Rattle.stored.proofs.write_entry.Tie as tie
 
