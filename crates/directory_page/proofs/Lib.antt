@@ -1,0 +1,7 @@
+pub mod Places
+pub mod Fields
+pub mod Lines
+pub mod Entries
+pub mod Pages
+pub mod Answers
+pub mod Reading
