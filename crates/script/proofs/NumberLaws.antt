@@ -18,7 +18,7 @@ use Rattle.script.proofs.ReaderLaws.{more-stop}
 -- ---- from a number to its text and back
 
 module _ (limit : ℕ) where
-  read-decimal : (k v : ℕ) → v < k → v ≤ limit → (t : List ℕ) → number limit (decimal v ++ t) ≡ more limit v t
+  pub read-decimal : (k v : ℕ) → v < k → v ≤ limit → (t : List ℕ) → number limit (decimal v ++ t) ≡ more limit v t
   unfolding number beginsDigit more
   read-decimal zero v h s t = absurd (omega arith)
   read-decimal (suc k) v h s t =
@@ -79,7 +79,7 @@ module _ (limit w : ℕ) (rest : List ℕ) where
       record { small = i .small; spelled = rw (← (append-snoc (decimal v) x t), ← (decimal-next v x (omega arith) lo hi)) (i .spelled) })
       (λ e. itself v (x ∷ t) (leb-true _ _ (k .0)) (simp (whens, e) at (k .1)))
 
-  number-text : (t : List ℕ) → number limit t ≡ found w rest → Spelled limit t w rest
+  pub number-text : (t : List ℕ) → number limit t ≡ found w rest → Spelled limit t w rest
   unfolding number beginsDigit
   number-text [] h = let z : _≡_ {A = ℕ} 0 1 = cc (holds _ h .0) in absurd (omega arith)
   number-text (x ∷ t) h =

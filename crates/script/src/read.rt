@@ -37,7 +37,7 @@ enum SettingsRead {
 }
 
 // Whether this octet stands at the place.
-fn is_at(text: &[u8], at: usize, octet: u8) -> bool
+pub fn is_at(text: &[u8], at: usize, octet: u8) -> bool
     ensures { λ r. ⌜ r ≡ begins octet (drop at (now (text .entry))) ⌝ }
 {
     if at < text.len() {

@@ -1,0 +1,3 @@
+pub mod OctetLaws
+pub mod Meaning
+pub mod Worked
