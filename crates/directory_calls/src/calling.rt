@@ -1,10 +1,10 @@
 // Calls of the directory's call that is kept, over the store.
-use directory::CallResult;
-use directory::DirectoryAnswer;
-use directory::DirectoryCall;
-use directory::DirectoryStart;
-use directory::DirectoryStep;
-use directory::StartAnswer;
+use collector::CallResult;
+use collector::DirectoryAnswer;
+use collector::DirectoryCall;
+use collector::DirectoryStart;
+use collector::DirectoryStep;
+use collector::StartAnswer;
 use frame::Frame;
 use station_calls::kept as held;
 use station_calls::kept::STATION;
