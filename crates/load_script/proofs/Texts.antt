@@ -10,8 +10,9 @@ use Rattle.store.specs.Store.{written}
 use Rattle.script.specs.Decimal.{decimal, spaced}
 use Rattle.lines.specs.Numbers.{placeAfter, textWith}
 use Rattle.lines.specs.Putting.{Put}
-use Rattle.lines.proofs.Writing.{put-then, digits-most}
+use Rattle.lines.proofs.Writing.{put-then}
 use Rattle.lines.proofs.Numbers.{put-with-room}
+use Rattle.script.proofs.Decimals.{digits-most}
 use Rattle.script.proofs.Meaning.{spaced-append}
 
 -- nothing is put before the first number
