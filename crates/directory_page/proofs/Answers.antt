@@ -54,3 +54,17 @@ module _ (o : List ℕ) where
     told-written h =
         let room = le-leb (length (pageText o)) (length buffer) (rw (page-long o) h) in
         (simp (whens, fine .0, fine .1, room) (rw (page-long o)), simp (whens, fine .0, fine .1, room))
+
+-- a refusal leaves the buffer as it came in
+pub refusal-keeps : (o buffer : List ℕ) (x : FtError) → printAnswer o (length buffer) ≡ P.Err x → pageAfter o buffer ≡ buffer
+unfolding printAnswer pageAfter
+refusal-keeps o buffer x refused =
+    either (allRight o)
+    (λ right.
+    either (allPrintable o)
+    (λ fine.
+    either (pageFits o (length buffer))
+    (λ room. let other : P.Ok (length (pageText o)) ≡ P.Err x = simp (whens, right, fine, room) at refused in let z : _≡_ {A = ℕ} 0 1 = cc in absurd (omega arith))
+    (λ short. simp (whens, right, fine, short)))
+    (λ large. simp (whens, right, large)))
+    (λ wrong. simp (whens, wrong))

@@ -19,7 +19,7 @@ use Rattle.asdu.specs.declared.EntryResult.the-variants.{Ok, Err}
 use Rattle.asdu.proofs.Page.{to-the-end}
 use Rattle.asdu.proofs.Range.{both}
 use Rattle.script.proofs.Decimals.{either}
-use Rattle.directory_page.specs.Page.{entriesIn, every, isClear, allRight, isPrintable, allPrintable, judgedAs}
+use Rattle.directory_page.specs.Page.{storedEntries, every, isClear, allRight, isPrintable, allPrintable, judgedAs}
 use Rattle.directory_page.specs.declared.Judged.the-variants as J
 
 -- ---- one entry of 17 octets, unpacked from its fifth on
@@ -67,7 +67,7 @@ every-at p (suc n) o h (suc i) less =
     rw (drop-drop (17 * i) 17 o, place) at (every-at p n (drop 17 o) (both _ _ h .1) i (omega arith))
 
 pub clear-at : (o : List ℕ) (i : ℕ) → i < length o / 17 → allRight o ≡ true → isClear (take 17 (drop (17 * i) o)) ≡ true
-unfolding allRight entriesIn
+unfolding allRight storedEntries
 clear-at o i less right = every-at isClear (length o / 17) o (both _ _ right .1) i less
 
 -- ---- what is answered
@@ -79,14 +79,14 @@ module _ (o : List ℕ) where
 
   module _ (whole : length o % 17 ≡ 0) where
     pub judged-set : every isClear (parts (length o / 17) 17 o) ≡ false → J.Err ValueOutOfRange ≡ judgedAs o
-    unfolding judgedAs allRight entriesIn
+    unfolding judgedAs allRight storedEntries
     judged-set h = simp (whens, eq-eqb _ _ whole, h)
 
     module _ (clear : every isClear (parts (length o / 17) 17 o) ≡ true) where
       pub judged-fine : every isPrintable (parts (length o / 17) 17 o) ≡ true → J.Ok ≡ judgedAs o
-      unfolding judgedAs allRight allPrintable entriesIn
+      unfolding judgedAs allRight allPrintable storedEntries
       judged-fine h = simp (whens, eq-eqb _ _ whole, clear, h)
 
       pub judged-large : every isPrintable (parts (length o / 17) 17 o) ≡ false → J.Err NotPrintable ≡ judgedAs o
-      unfolding judgedAs allRight allPrintable entriesIn
+      unfolding judgedAs allRight allPrintable storedEntries
       judged-large h = simp (whens, eq-eqb _ _ whole, clear, h)

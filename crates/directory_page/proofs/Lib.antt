@@ -5,3 +5,4 @@ pub mod Entries
 pub mod Pages
 pub mod Answers
 pub mod Reading
+pub mod Worked

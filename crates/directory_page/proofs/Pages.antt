@@ -11,7 +11,7 @@ use Rattle.lists.specs.Parts.{parts, joined}
 use Rattle.store.specs.Store.{written}
 use Rattle.store.proofs.Written.{written-long, written-lent}
 use Rattle.script.specs.Answers.{over}
-use Rattle.directory_page.specs.Page.{entriesIn, entryLine, pageText}
+use Rattle.directory_page.specs.Page.{storedEntries, entryLine, pageText}
 use Rattle.directory_page.proofs.Fields.{Wrote, wrote, then-wrote}
 use Rattle.directory_page.proofs.Lines.{line-long}
 
@@ -29,7 +29,7 @@ lines-long (suc n) o = rw (length-append, entry-line-long (take 17 o), lines-lon
 
 -- a page has 53 octets for each entry
 pub page-long : (o : List ℕ) → length (pageText o) ≡ 53 * (length o / 17)
-unfolding pageText entriesIn
+unfolding pageText storedEntries
 page-long o = lines-long (length o / 17) o
 
 -- lines, and those behind them
@@ -52,7 +52,7 @@ lines-front (suc m) o q h =
 
 -- the page of joined entries is the joined pages
 pub page-joined : (o q : List ℕ) → length o % 17 ≡ 0 → pageText (o ++ q) ≡ pageText o ++ pageText q
-unfolding pageText entriesIn
+unfolding pageText storedEntries
 page-joined o q whole =
     let m = length o / 17 in
     let n = length q / 17 in

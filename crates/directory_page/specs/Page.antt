@@ -17,26 +17,13 @@ use Rattle.directory_page.specs.declared.Judged.the-variants as J
 use Rattle.directory_page.specs.declared.PrintResult.{PrintResult}
 use Rattle.directory_page.specs.declared.PrintResult.the-variants as P
 
--- ---- entries, as the directory call's store has them: 17 octets each, the address in 4 and the packed entry in 13
+-- ---- one entry, as the directory call's store has it: 17 octets, the object address in 4 and the packed entry in 13
 
-unfoldable pub entriesIn : List ℕ → List (List ℕ)
-entriesIn o = parts (length o / 17) 17 o
-
-abbrev pub every : (List ℕ → Bool) → List (List ℕ) → Bool
-every p [] = true
-every p (e ∷ es) = p e and every p es
-
--- ---- refusals
-
--- no reserved bit of an entry is set
+-- no reserved bit is set
 unfoldable pub isClear : List ℕ → Bool
 isClear s = reservedClear (drop 4 s)
 
--- not 4: whole entries, and no reserved bit set
-unfoldable pub allRight : List ℕ → Bool
-allRight o = eqb (length o % 17) 0 and every isClear (entriesIn o)
-
--- an address of at most 8 digits, and a time of day and a date whose numbers have their places
+-- the numbers of a time, and an address of at most 8 digits
 unfoldable pub fitsLine : ℕ → Cp56Time2a → Bool
 fitsLine ioa t =
     leb (t .milliseconds) 59999
@@ -46,33 +33,46 @@ fitsLine ioa t =
     and leb (t .years) 99
     and leb ioa 99999999
 
--- not 27
 unfoldable pub isPrintable : List ℕ → Bool
 isPrintable s = fitsLine (addressIn s) (entryOf (drop 4 s) .time)
-
-unfoldable pub allPrintable : List ℕ → Bool
-allPrintable o = every isPrintable (entriesIn o)
-
--- ---- the page
 
 unfoldable pub entryLine : List ℕ → List ℕ
 entryLine s = lineText (addressIn s) (entryOf (drop 4 s))
 
+-- ---- all entries, one after the other
+
+unfoldable pub storedEntries : List ℕ → List (List ℕ)
+storedEntries o = parts (length o / 17) 17 o
+
+abbrev pub every : (List ℕ → Bool) → List (List ℕ) → Bool
+every p [] = true
+every p (e ∷ es) = p e and every p es
+
+-- whole entries, of which none has a reserved bit set: else 4
+unfoldable pub allRight : List ℕ → Bool
+allRight o = eqb (length o % 17) 0 and every isClear (storedEntries o)
+
+-- else 27
+unfoldable pub allPrintable : List ℕ → Bool
+allPrintable o = every isPrintable (storedEntries o)
+
+-- ---- the page
+
 -- the lines of the entries, joined
 unfoldable pub pageText : List ℕ → List ℕ
-pageText o = joined (map entryLine (entriesIn o))
+pageText o = joined (map entryLine (storedEntries o))
 
--- not 28
+-- a buffer of this length has room for it: else 28
 unfoldable pub pageFits : List ℕ → ℕ → Bool
 pageFits o len = leb (length (pageText o)) len
 
 -- ---- writing a page
 
--- over all entries 4 first, then 27
+-- over all entries 4 is tested first, then 27
 unfoldable pub judgedAs : List ℕ → Judged
 judgedAs o = unless (allRight o) (J.Err ValueOutOfRange) (unless (allPrintable o) (J.Err NotPrintable) J.Ok)
 
--- then 28; else how many octets are written
+-- then 28; where nothing is refused, how many octets are written
 unfoldable pub printAnswer : List ℕ → ℕ → PrintResult
 printAnswer o len =
     unless (allRight o) (P.Err ValueOutOfRange)

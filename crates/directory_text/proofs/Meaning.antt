@@ -1,13 +1,13 @@
--- Exactly the texts of whole entries are read, and each is read as its entries; and how long a text is at most.
+-- Exactly the texts of whole entries are read, and each is read as its entries; how long a text is at most, and that its page has room.
 use Prim.Native.Nat.{ℕ, zero, suc, _+_, _*_, _%_, _≤_}
-use mathlib.Core.Bool.{false}
+use mathlib.Core.Bool.{true, false}
 use mathlib.Core.Path.{_≡_, refl, sym, ap, _∙_}
 use mathlib.Core.Option.{Option, none, some, Option·none-ne-some}
 use mathlib.Core.List.{List, [], _∷_, _++_}
 use native.Mathlib.Omega.{arith}
 use lib.Dec.{eqb}
 use lib.ListN.{length, length-append}
-use borrow.Author.Tests.{eqb-true, eq-eqb}
+use borrow.Author.Tests.{eqb-true, eq-eqb, le-leb}
 use Rattle.laws.proofs.Decide.{whens}
 use Rattle.laws.proofs.Choices as C
 use Rattle.script.specs.Decimal.{decimal}
@@ -16,6 +16,8 @@ use Rattle.script.specs.Reader.{Found, nothing, found, begins, beginsDigit}
 use Rattle.script.proofs.Decimals.{either, digits-most}
 use Rattle.script.proofs.ReaderLaws.{more-stop}
 use Rattle.script.proofs.NumberLaws.{read-decimal}
+use Rattle.directory_page.specs.Page.{pageText, pageFits}
+use Rattle.directory_page.proofs.Pages.{page-long}
 use Rattle.directory_text.specs.Text.{Entries, behind, textFrom, entriesText, octetIn, inFrontOf, thenOctets, noneFrom, octetsFrom, entriesOf}
 use Rattle.directory_text.proofs.OctetLaws.{Stands, octet-found, octets-on, octets-end}
 
@@ -109,3 +111,10 @@ octets-most k (x ∷ xs) h = rw length-append (omega (arith, digits-most 2 x (om
 pub text-most : (o : List ℕ) → Octets o → length (entriesText o) ≤ 4 * length o
 unfolding entriesText
 text-most o h = octets-most 0 o h
+
+-- ---- the page of a text
+
+-- a page of 1,000 lines has room for the entries of every text, so none is 28
+pub text-fits : (t o : List ℕ) → entriesOf t ≡ some o → (len : ℕ) → 53000 ≤ len → pageFits o len ≡ true
+unfolding pageFits
+text-fits t o e len h = let few = read-entries t o e .0 .few in le-leb (length (pageText o)) len (rw (page-long o) (omega arith))

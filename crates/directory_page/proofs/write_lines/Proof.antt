@@ -4,7 +4,7 @@ use native.Mathlib.Omega.{arith}
 use borrow.Author.Needs.{needs}
 use lib.ListN.{length, length-take, length-drop}
 use Rattle.store.proofs.Written.{written-none}
-use Rattle.directory_page.specs.Page.{entriesIn, pageText}
+use Rattle.directory_page.specs.Page.{storedEntries, pageText}
 use Rattle.directory_page.proofs.Fields.{Wrote, wrote}
 use Rattle.directory_page.proofs.Entries.{clear-at}
 use Rattle.directory_page.proofs.Pages.{linesOf, line-next, front-wrote}
@@ -39,7 +39,7 @@ loop-again c =
     rw v (line-next (a .page .now) (l .loop .page) o i (p .put-entry .last .0) line (l .loop .inv .2) (omega arith) (omega arith) (l .loop .inv .1))
 
 returns : tie.Need-returns Inv-loop μ-loop
-unfolding pageText entriesIn
+unfolding pageText storedEntries
 returns c =
     let l = c .before in
     let a = l .before .before .before .args in
