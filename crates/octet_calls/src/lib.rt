@@ -1,5 +1,7 @@
-// Calls of `replay` (docs/REPLAY.md) on the buffers, and on the scripts that are read into them.
+// Calls of `replay` (docs/REPLAY.md) on the buffers, on the scripts that are read into them, and on what is
+// made of them as text.
 pub mod loads; // the test load's generator, and its scripts
+pub mod pages; // a directory page to print
 
 use script::Outline;
 use script::ScriptResult;

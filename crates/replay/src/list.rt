@@ -8,6 +8,7 @@ use frame_calls::parts;
 use machine_calls::providing;
 use machine_calls::receiving;
 use octet_calls::loads;
+use octet_calls::pages;
 use station_calls::kept;
 use station_calls::stations;
 use words::Numbers;
@@ -98,6 +99,9 @@ fn is_of_buffers(
         return true;
     }
     if loads::call(line, regs, file, damage) {
+        return true;
+    }
+    if pages::call(line, regs, store) {
         return true;
     }
     octet_calls::is_script(line, regs, file, damage)
