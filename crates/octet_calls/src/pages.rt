@@ -21,13 +21,17 @@ use words::write;
 // What stands in a page before it is written.
 const BEFORE: u8 = 170;
 
+// The most entries of the store.
+const MOST: usize = 542;
+
 // ---- The store
 
 // Puts an entry's octets behind the entries of the store, and answers how many octets it has then.
 fn put_behind(regs: &mut Numbers, store: &mut Octets, ioa: u32, packed: &[u8]) {
     let held = at(regs, kept::STORE, 0) as usize / STORED;
-    if stored::write_page(store, held, ioa, packed) {
+    if held < MOST {
         let octets = (held + 1) * STORED;
+        stored::write_page(store, held, ioa, packed);
         put(regs, kept::STORE, 0, octets as u64);
         write::one(octets as u64);
     }
