@@ -12,7 +12,8 @@ use Rattle.asdu.specs.declared.FtError.{FtError}
 use Rattle.asdu.specs.declared.FtError.the-variants.{ValueOutOfRange, NotPrintable, PageTooShort}
 use Rattle.script.specs.Answers.{over}
 use Rattle.script.proofs.Decimals.{either}
-use Rattle.directory_page.specs.Page.{allRight, allPrintable, pageText, pageFits, judgedAs, printAnswer, pageAfter}
+use Rattle.directory_page.specs.Page.{allRight, allPrintable, pageText, pageFits, printAnswer, pageAfter}
+use Rattle.directory_page.specs.Judging.{judgedAs}
 use Rattle.directory_page.specs.declared.Judged.the-variants as J
 use Rattle.directory_page.specs.declared.PrintResult.the-variants as P
 use Rattle.directory_page.proofs.Pages.{page-long}

@@ -19,7 +19,8 @@ use Rattle.asdu.specs.declared.EntryResult.the-variants.{Ok, Err}
 use Rattle.asdu.proofs.Page.{to-the-end}
 use Rattle.asdu.proofs.Range.{both}
 use Rattle.script.proofs.Decimals.{either}
-use Rattle.directory_page.specs.Page.{storedEntries, every, isClear, allRight, isPrintable, allPrintable, judgedAs}
+use Rattle.directory_page.specs.Page.{storedEntries, every, isClear, allRight, isPrintable, allPrintable}
+use Rattle.directory_page.specs.Judging.{judgedAs}
 use Rattle.directory_page.specs.declared.Judged.the-variants as J
 
 -- ---- one entry of 17 octets, unpacked from its fifth on

@@ -16,7 +16,7 @@ use Rattle.stored.specs.Stored.{addressIn}
 use Rattle.script.specs.Decimal.{decimal}
 use Rattle.script.proofs.Decimals.{either, decimal-one, decimal-more, digits-most}
 use Rattle.directory_page.specs.Line.{inPlaces, aligned, zeroed, mark, flagsText, dateText, clockText, lineText}
-use Rattle.directory_page.specs.Page.{fitsLine, isPrintable, entryLine}
+use Rattle.directory_page.specs.Page.{withinBounds, isPrintable, entryLine}
 use Rattle.directory_page.specs.Shown.{shown, entryShown, valueFrom, numberAt, isMarked, readLine}
 use Rattle.directory_page.proofs.Places.{places-long}
 
@@ -160,7 +160,7 @@ abbrev Octets : List ℕ → Type 0
 Octets s = (i : ℕ) → getD s i 0 < 256
 
 printable-fits : (s : List ℕ) → Octets s → isPrintable s ≡ true → Fits (addressIn s) (entryOf (drop 4 s))
-unfolding isPrintable fitsLine entryOf timeAt sofOf
+unfolding isPrintable withinBounds entryOf timeAt sofOf
 printable-fits s small h =
     let o : (i : ℕ) → getD (drop 4 s) i 0 < 256 = λ i. rw (getD-drop 4 s i 0) (small (4 + i)) in
     let ms = both _ _ h in

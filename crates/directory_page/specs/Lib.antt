@@ -1,3 +1,4 @@
 pub mod Line
 pub mod Page
+pub mod Judging
 pub mod Shown

@@ -12,10 +12,8 @@ use Rattle.asdu.specs.declared.FtError.the-variants.{ValueOutOfRange, NotPrinta
 use Rattle.script.specs.Answers.{over}
 use Rattle.stored.specs.Stored.{addressIn}
 use Rattle.directory_page.specs.Line.{lineText}
-use Rattle.directory_page.specs.declared.Judged.{Judged}
-use Rattle.directory_page.specs.declared.Judged.the-variants as J
 use Rattle.directory_page.specs.declared.PrintResult.{PrintResult}
-use Rattle.directory_page.specs.declared.PrintResult.the-variants as P
+use Rattle.directory_page.specs.declared.PrintResult.the-variants.{Ok, Err}
 
 -- ---- one entry, as the directory call's store has it: 17 octets, the object address in 4 and the packed entry in 13
 
@@ -23,9 +21,9 @@ use Rattle.directory_page.specs.declared.PrintResult.the-variants as P
 unfoldable pub isClear : List ℕ → Bool
 isClear s = reservedClear (drop 4 s)
 
--- the numbers of a time, and an address of at most 8 digits
-unfoldable pub fitsLine : ℕ → Cp56Time2a → Bool
-fitsLine ioa t =
+-- what document 02 bounds of a time, and an address of at most 8 digits
+unfoldable pub withinBounds : ℕ → Cp56Time2a → Bool
+withinBounds ioa t =
     leb (t .milliseconds) 59999
     and leb (t .minutes) 59
     and leb (t .hours) 23
@@ -34,7 +32,7 @@ fitsLine ioa t =
     and leb ioa 99999999
 
 unfoldable pub isPrintable : List ℕ → Bool
-isPrintable s = fitsLine (addressIn s) (entryOf (drop 4 s) .time)
+isPrintable s = withinBounds (addressIn s) (entryOf (drop 4 s) .time)
 
 unfoldable pub entryLine : List ℕ → List ℕ
 entryLine s = lineText (addressIn s) (entryOf (drop 4 s))
@@ -68,15 +66,11 @@ pageFits o len = leb (length (pageText o)) len
 
 -- ---- writing a page
 
--- over all entries 4 is tested first, then 27
-unfoldable pub judgedAs : List ℕ → Judged
-judgedAs o = unless (allRight o) (J.Err ValueOutOfRange) (unless (allPrintable o) (J.Err NotPrintable) J.Ok)
-
--- then 28; where nothing is refused, how many octets are written
+-- over all entries 4 is tested first, then 27, then 28; where nothing is refused, how many octets are written
 unfoldable pub printAnswer : List ℕ → ℕ → PrintResult
 printAnswer o len =
-    unless (allRight o) (P.Err ValueOutOfRange)
-    (unless (allPrintable o) (P.Err NotPrintable) (unless (pageFits o len) (P.Err PageTooShort) (P.Ok (length (pageText o)))))
+    unless (allRight o) (Err ValueOutOfRange)
+    (unless (allPrintable o) (Err NotPrintable) (unless (pageFits o len) (Err PageTooShort) (Ok (length (pageText o)))))
 
 -- the buffer afterwards: the page over its front; a refusal leaves it as it came in
 unfoldable pub pageAfter : List ℕ → List ℕ → List ℕ

@@ -19,7 +19,8 @@ ghost use Rattle.store.specs.Store.{written};
 ghost use Rattle.script.specs.Answers.{over};
 ghost use Rattle.stored.specs.Stored.{addressIn};
 ghost use Rattle.directory_page.specs.Line.{newline, space, inPlaces, aligned, mark, flagsText, dateText, clockText, lineText};
-ghost use Rattle.directory_page.specs.Page.{isClear, fitsLine, allRight, entryLine, pageText, judgedAs, printAnswer, pageAfter};
+ghost use Rattle.directory_page.specs.Page.{isClear, withinBounds, allRight, entryLine, pageText, printAnswer, pageAfter};
+ghost use Rattle.directory_page.specs.Judging.{judgedAs};
 
 // The octets of a line: 52 characters and a newline.
 pub const LINE: usize = 53;
@@ -156,9 +157,9 @@ fn address_in(octets: &[u8]) -> u32
     wide(octets[0]) + 256 * wide(octets[1]) + 65536 * wide(octets[2]) + 16777216 * wide(octets[3])
 }
 
-// Whether the numbers of an address and a time have their places in a line.
-fn fits_line(ioa: u32, time: Cp56Time2a) -> bool
-    ensures { λ r. ⌜ r ≡ fitsLine ioa time ⌝ }
+// Whether an address and a time are within document 02's bounds: else 27.
+fn is_within_bounds(ioa: u32, time: Cp56Time2a) -> bool
+    ensures { λ r. ⌜ r ≡ withinBounds ioa time ⌝ }
 {
     if 59999 < time.milliseconds {
         return false;
@@ -209,7 +210,7 @@ fn judge(entries: &[u8]) -> Judged
     if entries.len() % STORED != 0 {
         return Judged::Err(FtError::ValueOutOfRange);
     }
-    let mut fits = true;
+    let mut printable = true;
     let mut left = entries.len() / STORED;
     let mut at = 0;
     while 0 < left {
@@ -217,11 +218,11 @@ fn judge(entries: &[u8]) -> Judged
         let EntryResult::Ok(entry) = DirectoryEntry::unpack(&octets[4..]) else {
             return Judged::Err(FtError::ValueOutOfRange);
         };
-        fits = both(fits, fits_line(address_in(octets), entry.time));
+        printable = both(printable, is_within_bounds(address_in(octets), entry.time));
         at += STORED;
         left -= 1;
     }
-    if fits {
+    if printable {
         return Judged::Ok;
     }
     Judged::Err(FtError::NotPrintable)

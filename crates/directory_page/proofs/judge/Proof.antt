@@ -14,13 +14,13 @@ use Rattle.directory_page.proofs.judge.Statement.{statement}
 use Rattle.directory_page.proofs.judge.Tie as tie
 
 abbrev Inv-loop : tie.InvT-loop
-Inv-loop entries fits₀ left₀ at₀ fits left at =
+Inv-loop entries printable₀ left₀ at₀ printable left at =
     (at + 17 * left ≤ length entries)
     × (every isClear (parts left₀ 17 entries) ≡ every isClear (parts left 17 (drop at entries)))
-    × (every isPrintable (parts left₀ 17 entries) ≡ (fits and every isPrintable (parts left 17 (drop at entries))))
+    × (every isPrintable (parts left₀ 17 entries) ≡ (printable and every isPrintable (parts left 17 (drop at entries))))
 
 abbrev μ-loop : tie.MeasureT-loop
-μ-loop entries fits₀ left₀ at₀ fits left at = left
+μ-loop entries printable₀ left₀ at₀ printable left at = left
 
 returns : tie.Need-returns Inv-loop μ-loop
 returns c = judged-odd _ (c .if1 .taken)
@@ -53,7 +53,7 @@ loop-again c =
     let long : length s ≡ 17 = simp (length-take, length-drop) (omega arith) in
     let told = entry-told s long _ (sym (m .entry .given .1) ∙ u .unpack .ensures) in
     let clear : isClear s ≡ true = told .0 in
-    let fits : f .fits-line .result ≡ isPrintable s = f .fits-line .ensures ∙ rw (d .address-in .ensures, told .1) in (
+    let fits : f .is-within-bounds .result ≡ isPrintable s = f .is-within-bounds .ensures ∙ rw (d .address-in .ensures, told .1) in (
       omega arith,
       l .loop .inv .1 ∙ simp (whens, every-next isClear o at left (omega arith), rw w at clear),
       l .loop .inv .2 ∙ rw (every-next isPrintable o at left (omega arith)) (and-then _ _ _ _ (c .both .ensures ∙ rw (fits, w))),
