@@ -6,7 +6,6 @@ use mathlib.Core.List.{List}
 use native.Mathlib.Omega.{arith}
 use lib.ListN.{length}
 use borrow.Author.Tests.{le-leb, lt-leb}
-use Rattle.laws.specs.When.{when}
 use Rattle.laws.proofs.Decide.{whens}
 use Rattle.asdu.specs.declared.FtError.{FtError}
 use Rattle.asdu.specs.declared.FtError.the-variants.{ValueOutOfRange, NotPrintable, PageTooShort}

@@ -5,7 +5,7 @@ use mathlib.Core.Path.{_≡_, refl, sym, ap, _∙_}
 use mathlib.Core.List.{List, [], _∷_, _++_, append-assoc, append-nil}
 use native.Mathlib.Omega.{arith}
 use lib.Dec.{leb, eqb}
-use lib.ListN.{length, take, drop, getD, replicate, length-replicate, replicate-append-replicate}
+use lib.ListN.{length, drop, getD, replicate, length-replicate, replicate-append-replicate}
 use lib.Seq.{take-at, drop-at, drop-drop, drop-append-le, getD-drop}
 use borrow.Author.Tests.{leb-true, leb-false, eq-eqb}
 use Rattle.laws.specs.When.{when}

@@ -1,5 +1,4 @@
 use borrow.Author.Needs.{needs}
-use native.Mathlib.Omega.{arith}
 use Rattle.directory_page.proofs.Lines.{line-wrote}
 use Rattle.directory_page.proofs.put_line.Statement.{statement}
 use Rattle.directory_page.proofs.put_line.Tie as tie

@@ -1,7 +1,5 @@
-use Prim.Native.Nat.{_≤_}
-use mathlib.Core.Path.{_≡_, refl, sym}
+use mathlib.Core.Path.{refl, sym}
 use borrow.Author.Needs.{needs}
-use lib.ListN.{length}
 use lib.Seq.{length-take-le}
 use Rattle.directory_text.specs.Answers.{textAnswer, textAfter}
 use Rattle.directory_text.proofs.write.Statement.{statement}
