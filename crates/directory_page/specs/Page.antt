@@ -21,7 +21,7 @@ use Rattle.directory_page.specs.declared.PrintResult.the-variants.{Ok, E
 unfoldable pub isClear : List ℕ → Bool
 isClear s = reservedClear (drop 4 s)
 
--- what document 02 bounds of a time, and an address of at most 8 digits
+-- a time within document 02's bounds, and an address of at most 8 digits
 unfoldable pub withinBounds : ℕ → Cp56Time2a → Bool
 withinBounds ioa t =
     leb (t .milliseconds) 59999
@@ -50,7 +50,7 @@ every p (e ∷ es) = p e and every p es
 unfoldable pub allRight : List ℕ → Bool
 allRight o = eqb (length o % 17) 0 and every isClear (storedEntries o)
 
--- else 27
+-- entries that can all be printed: else 27
 unfoldable pub allPrintable : List ℕ → Bool
 allPrintable o = every isPrintable (storedEntries o)
 
