@@ -1,13 +1,15 @@
 -- The packed directory entry, as IEC 60870-5-101 lays out type 126: NOF 2 octets, LOF 3, SOF 1, time 7, the lowest octet of each number first.
 use Prim.Native.Nat.{ℕ, zero, suc, _+_, _*_, _/_, _%_, min}
 use mathlib.Core.Bool.{Bool, true}
-use mathlib.Core.List.{List, [], _∷_}
+use mathlib.Core.List.{List, [], _∷_, _++_}
 use lib.Dec.{eqb}
 use lib.ListN.{length, take, drop, getD}
 use Rattle.laws.specs.When.{when, _and_}
 use Rattle.asdu.specs.Elements.{lofInRange, sofInRange}
 use Rattle.asdu.specs.Time.{timeInRange}
 use Rattle.asdu.specs.Sizes.{within}
+use Rattle.asdu.specs.declared.Nof.{Nof}
+use Rattle.asdu.specs.declared.Lof.{Lof}
 use Rattle.asdu.specs.declared.Sof.{Sof}
 use Rattle.asdu.specs.declared.Cp56Time2a.{Cp56Time2a}
 use Rattle.asdu.specs.declared.DirectoryEntry.{DirectoryEntry}
@@ -22,6 +24,13 @@ unfoldable pub entryInRange : DirectoryEntry → Bool
 entryInRange e = lofInRange (e .lof) and sofInRange (e .sof) and timeInRange (e .time)
 
 -- ---- entry to octets
+
+-- the lowest octet first
+abbrev pub nofOctets : Nof → List ℕ
+nofOctets n = n .value % 256 ∷ n .value / 256 ∷ []
+
+abbrev pub lofOctets : Lof → List ℕ
+lofOctets l = l .value % 256 ∷ l .value / 256 % 256 ∷ l .value / 65536 ∷ []
 
 -- a flag's place in its octet
 unfoldable pub flag : ℕ → Bool → ℕ
@@ -44,14 +53,7 @@ timeOctets t =
     ∷ []
 
 unfoldable pub entryOctets : DirectoryEntry → List ℕ
-entryOctets e =
-    e .nof .value % 256
-    ∷ e .nof .value / 256
-    ∷ e .lof .value % 256
-    ∷ e .lof .value / 256 % 256
-    ∷ e .lof .value / 65536
-    ∷ sofOctet (e .sof)
-    ∷ timeOctets (e .time)
+entryOctets e = nofOctets (e .nof) ++ lofOctets (e .lof) ++ sofOctet (e .sof) ∷ timeOctets (e .time)
 
 -- ---- octets to entry
 

@@ -66,21 +66,21 @@ impl DirectoryEntry {
 // ---- Entry to octets
 
 // Of a number's two octets the lower, which goes first.
-fn low_octet(x: u16) -> u8
+pub fn low_octet(x: u16) -> u8
     ensures { λ r. ⌜ r ≡ x % 256 ⌝ }
 {
     (x % 256) as u8
 }
 
 // Of a number's two octets the higher.
-fn high_octet(x: u16) -> u8
+pub fn high_octet(x: u16) -> u8
     ensures { λ r. ⌜ r ≡ x / 256 ⌝ }
 {
     (x / 256) as u8
 }
 
 // What a flag adds to its octet: its bit's weight where it is set.
-fn weight_of(weight: u8, b: bool) -> u8
+pub fn weight_of(weight: u8, b: bool) -> u8
     ensures { λ r. ⌜ (r ≡ flag weight b) × (r ≤ weight) ⌝ }
 {
     if b { weight } else { 0 }

@@ -29,6 +29,8 @@ impl FtError {
             FtError::RecordMismatch => 26,
             FtError::NotPrintable => 27,
             FtError::PageTooShort => 28,
+            FtError::UnsupportedType => 29,
+            FtError::BufferTooShort => 30,
         }
     }
 }

@@ -6,12 +6,12 @@ use native.Mathlib.Omega.{arith}
 use lib.ListN.{length, length-append}
 use Rattle.lists.specs.Parts.{joined}
 use Rattle.store.specs.Store.{written}
+use Rattle.store.proofs.Written.{Wrote, then-wrote, wrote, whole-wrote}
 use Rattle.asdu.specs.declared.Sof.{Sof}
 use Rattle.asdu.specs.declared.Cp56Time2a.{Cp56Time2a}
 use Rattle.asdu.specs.declared.DirectoryEntry.{DirectoryEntry}
 use Rattle.directory_page.specs.Line.{newline, space, aligned, flagsText, dateText, clockText, lineText}
 use Rattle.directory_page.proofs.Places.{places-long}
-use Rattle.directory_page.proofs.Fields.{Wrote, then-wrote, wrote, whole-wrote}
 
 abbrev names : ℕ → ℕ → ℕ → ℕ → List ℕ
 names ioa nof lof status = joined (aligned 8 ioa ∷ space ∷ aligned 5 nof ∷ space ∷ aligned 8 lof ∷ space ∷ aligned 2 status ∷ space ∷ [])

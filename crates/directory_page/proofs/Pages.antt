@@ -9,10 +9,9 @@ use lib.ListN.{length, take, drop, length-append, length-drop}
 use lib.Seq.{drop-drop, drop-at, take-append-le, drop-append-le}
 use Rattle.lists.specs.Parts.{parts, joined}
 use Rattle.store.specs.Store.{written}
-use Rattle.store.proofs.Written.{written-long, written-lent}
+use Rattle.store.proofs.Written.{written-long, written-lent, Wrote, wrote, then-wrote}
 use Rattle.script.specs.Answers.{over}
 use Rattle.directory_page.specs.Page.{storedEntries, entryLine, pageText}
-use Rattle.directory_page.proofs.Fields.{Wrote, wrote, then-wrote}
 use Rattle.directory_page.proofs.Lines.{line-long}
 
 -- the lines of the first n entries

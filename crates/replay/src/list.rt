@@ -1,6 +1,7 @@
 // The lines of a list: each is played as it is read.
 use directory_calls::calling;
 use directory_calls::paging;
+use frame_calls::bodies;
 use frame_calls::elements;
 use frame_calls::frames;
 use frame_calls::making;
@@ -29,6 +30,9 @@ fn is_plain(line: &[u8], octets: &mut Octets) -> bool {
         return true;
     }
     if parts::call(line, &mut args, octets) {
+        return true;
+    }
+    if bodies::call(line, &mut args, octets) {
         return true;
     }
     making::call(line, &mut args, octets)

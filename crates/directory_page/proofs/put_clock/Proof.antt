@@ -3,7 +3,8 @@ use mathlib.Core.List.{append-assoc, append-nil}
 use borrow.Author.Needs.{needs}
 use native.Mathlib.Omega.{arith}
 use Rattle.directory_page.specs.Line.{clockText}
-use Rattle.directory_page.proofs.Fields.{then-field, wrote}
+use Rattle.store.proofs.Written.{wrote}
+use Rattle.directory_page.proofs.Fields.{then-field}
 use Rattle.directory_page.proofs.put_clock.Statement.{statement}
 use Rattle.directory_page.proofs.put_clock.Tie as tie
 

@@ -2,7 +2,8 @@ use mathlib.Core.List.{append-assoc, append-nil}
 use borrow.Author.Needs.{needs}
 use native.Mathlib.Omega.{arith}
 use Rattle.directory_page.specs.Line.{dateText}
-use Rattle.directory_page.proofs.Fields.{then-field, wrote}
+use Rattle.store.proofs.Written.{wrote}
+use Rattle.directory_page.proofs.Fields.{then-field}
 use Rattle.directory_page.proofs.put_date.Statement.{statement}
 use Rattle.directory_page.proofs.put_date.Tie as tie
 

@@ -1,7 +1,8 @@
 use mathlib.Core.List.{append-assoc}
 use borrow.Author.Needs.{needs}
 use native.Mathlib.Omega.{arith}
-use Rattle.directory_page.proofs.Fields.{then-field, wrote}
+use Rattle.store.proofs.Written.{wrote}
+use Rattle.directory_page.proofs.Fields.{then-field}
 use Rattle.directory_page.proofs.put_names.Statement.{statement}
 use Rattle.directory_page.proofs.put_names.Tie as tie
 

@@ -3,9 +3,8 @@ use mathlib.Core.Path.{_≡_, refl, sym}
 use native.Mathlib.Omega.{arith}
 use borrow.Author.Needs.{needs}
 use lib.ListN.{length, length-take, length-drop}
-use Rattle.store.proofs.Written.{written-none}
+use Rattle.store.proofs.Written.{written-none, Wrote, wrote}
 use Rattle.directory_page.specs.Page.{storedEntries, pageText}
-use Rattle.directory_page.proofs.Fields.{Wrote, wrote}
 use Rattle.directory_page.proofs.Entries.{clear-at}
 use Rattle.directory_page.proofs.Pages.{linesOf, line-next, front-wrote}
 use Rattle.directory_page.proofs.write_lines.Statement.{statement}

@@ -1,0 +1,55 @@
+-- What writing a body answers and leaves in the buffer, test by test; and that a refusal leaves the buffer as it came in.
+use Prim.Native.Nat.{ℕ, _≤_, _<_}
+use mathlib.Core.Bool.{Bool, true, false}
+use mathlib.Core.Path.{_≡_, refl}
+use mathlib.Core.List.{List}
+use native.Mathlib.Omega.{arith}
+use lib.ListN.{length}
+use borrow.Author.Tests.{le-leb, lt-leb}
+use Rattle.laws.specs.When.{when, unless, _and_}
+use Rattle.laws.proofs.Decide.{whens}
+use Rattle.store.specs.Store.{written}
+use Rattle.asdu.specs.declared.FtError.{FtError}
+use Rattle.asdu.specs.declared.FtError.the-variants.{ValueOutOfRange, UnsupportedType, BufferTooShort}
+use Rattle.frame.specs.Frames.{typeOf}
+use Rattle.frame.specs.declared.Frame.{Frame}
+use Rattle.frame_body.specs.Body.{bodyType, bodyOf, bodyInRange, bodyFits, writeAnswer, outAfter}
+use Rattle.frame_body.specs.declared.WriteResult.{WriteResult}
+use Rattle.frame_body.specs.declared.WriteResult.the-variants.{Ok, Err}
+
+module _ (f : Frame) (p out : List ℕ) where
+  -- this is answered, and the buffer is then so
+  abbrev pub Told : WriteResult → List ℕ → Type 0
+  Told answer after = (answer ≡ writeAnswer f p (length out)) × (after ≡ outAfter f p out)
+
+  pub told-unsupported : bodyType (typeOf f) ≡ false → Told (Err UnsupportedType) out
+  unfolding writeAnswer outAfter
+  told-unsupported t = (simp (whens, t), simp (whens, t))
+
+  module _ (t : bodyType (typeOf f) ≡ true) where
+    pub told-range : bodyInRange f p ≡ false → Told (Err ValueOutOfRange) out
+    unfolding writeAnswer outAfter
+    told-range r = (simp (whens, t, r), simp (whens, t, r))
+
+    module _ (r : bodyInRange f p ≡ true) where
+      pub told-short : length out < length (bodyOf f p) → Told (Err BufferTooShort) out
+      unfolding writeAnswer outAfter bodyFits
+      told-short h = let s = lt-leb (length (bodyOf f p)) (length out) h in (simp (whens, t, r, s), simp (whens, t, r, s))
+
+      pub told-written : length (bodyOf f p) ≤ length out → Told (Ok (length (bodyOf f p))) (written out 0 (bodyOf f p))
+      unfolding writeAnswer outAfter bodyFits
+      told-written h = let s = le-leb (length (bodyOf f p)) (length out) h in (simp (whens, t, r, s), simp (whens, t, r, s))
+
+-- of three tests, one after the other
+kept : (a b d : Bool) (n : ℕ) (x : FtError) (after out : List ℕ)
+    → unless a (Err UnsupportedType) (unless b (Err ValueOutOfRange) (unless d (Err BufferTooShort) (Ok n))) ≡ Err x → when (a and b and d) after out ≡ out
+unfolding when
+kept true true true n x after out e = let z : _≡_ {A = ℕ} 0 1 = cc in absurd (omega arith)
+kept true true false n x after out e = refl
+kept true false d n x after out e = refl
+kept false b d n x after out e = refl
+
+pub refusal-keeps : (f : Frame) (p out : List ℕ) (x : FtError) → writeAnswer f p (length out) ≡ Err x → outAfter f p out ≡ out
+unfolding writeAnswer outAfter
+refusal-keeps f p out x e =
+    kept (bodyType (typeOf f)) (bodyInRange f p) (bodyFits f p (length out)) (length (bodyOf f p)) x (written out 0 (bodyOf f p)) out e
