@@ -1,21 +1,23 @@
 -- What writing a body answers and leaves in the buffer, test by test; and that a refusal leaves the buffer as it came in.
 use Prim.Native.Nat.{ℕ, _≤_, _<_}
-use mathlib.Core.Bool.{Bool, true, false}
-use mathlib.Core.Path.{_≡_, refl}
+use mathlib.Core.Bool.{Bool, true, false, not}
+use mathlib.Core.Path.{_≡_, refl, sym, _∙_}
 use mathlib.Core.List.{List}
 use native.Mathlib.Omega.{arith}
 use lib.ListN.{length}
 use borrow.Author.Tests.{le-leb, lt-leb}
 use Rattle.laws.specs.When.{when, unless, _and_}
-use Rattle.laws.proofs.Decide.{whens}
+use Rattle.laws.proofs.Decide.{whens, yes-by-not}
 use Rattle.store.specs.Store.{written}
 use Rattle.asdu.specs.declared.FtError.{FtError}
 use Rattle.asdu.specs.declared.FtError.the-variants.{ValueOutOfRange, UnsupportedType, BufferTooShort}
 use Rattle.frame.specs.Frames.{typeOf}
+use Rattle.frame.specs.Ranges.{valuesInRange}
 use Rattle.frame.specs.declared.Frame.{Frame}
 use Rattle.frame_body.specs.Body.{bodyType, bodyOf, bodyInRange, bodyFits, writeAnswer, outAfter}
 use Rattle.frame_body.specs.declared.WriteResult.{WriteResult}
 use Rattle.frame_body.specs.declared.WriteResult.the-variants.{Ok, Err}
+use Rattle.frame_body.proofs.Bodies.{narrowest, range-same}
 
 module _ (f : Frame) (p out : List ℕ) where
   -- this is answered, and the buffer is then so
@@ -26,19 +28,25 @@ module _ (f : Frame) (p out : List ℕ) where
   unfolding writeAnswer outAfter
   told-unsupported t = (simp (whens, t), simp (whens, t))
 
-  module _ (t : bodyType (typeOf f) ≡ true) where
-    pub told-range : bodyInRange f p ≡ false → Told (Err ValueOutOfRange) out
-    unfolding writeAnswer outAfter
-    told-range r = (simp (whens, t, r), simp (whens, t, r))
+  pub told-range : (bodyType (typeOf f) ≡ true) × (bodyInRange f p ≡ false) → Told (Err ValueOutOfRange) out
+  unfolding writeAnswer outAfter
+  told-range h = (simp (whens, h .0, h .1), simp (whens, h .0, h .1))
 
-    module _ (r : bodyInRange f p ≡ true) where
-      pub told-short : length out < length (bodyOf f p) → Told (Err BufferTooShort) out
-      unfolding writeAnswer outAfter bodyFits
-      told-short h = let s = lt-leb (length (bodyOf f p)) (length out) h in (simp (whens, t, r, s), simp (whens, t, r, s))
+  module _ (h : (bodyType (typeOf f) ≡ true) × (bodyInRange f p ≡ true)) where
+    pub told-short : length out < length (bodyOf f p) → Told (Err BufferTooShort) out
+    unfolding writeAnswer outAfter bodyFits
+    told-short s = let n = lt-leb (length (bodyOf f p)) (length out) s in (simp (whens, h .0, h .1, n), simp (whens, h .0, h .1, n))
 
-      pub told-written : length (bodyOf f p) ≤ length out → Told (Ok (length (bodyOf f p))) (written out 0 (bodyOf f p))
-      unfolding writeAnswer outAfter bodyFits
-      told-written h = let s = le-leb (length (bodyOf f p)) (length out) h in (simp (whens, t, r, s), simp (whens, t, r, s))
+    pub told-written : length (bodyOf f p) ≤ length out → Told (Ok (length (bodyOf f p))) (written out 0 (bodyOf f p))
+    unfolding writeAnswer outAfter bodyFits
+    told-written s = let n = le-leb (length (bodyOf f p)) (length out) s in (simp (whens, h .0, h .1, n), simp (whens, h .0, h .1, n))
+
+-- the type's test and the ranges' test, by the results t and r of the calls
+pub tested : (f : Frame) (p : List ℕ) {n : ℕ} {t r : Bool} → n ≡ typeOf f → t ≡ bodyType n → not t ≡ false → r ≡ valuesInRange narrowest f p
+    → (bodyType (typeOf f) ≡ true) × (bodyInRange f p ≡ r)
+tested f p k e h g =
+    let has : bodyType (typeOf f) ≡ true = rw (← k) (yes-by-not e h) in
+    (has, sym (range-same f p has) ∙ sym g)
 
 -- of three tests, one after the other
 kept : (a b d : Bool) (n : ℕ) (x : FtError) (after out : List ℕ)

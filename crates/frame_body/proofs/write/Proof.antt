@@ -1,12 +1,9 @@
-use mathlib.Core.Bool.{true}
-use mathlib.Core.Path.{_≡_, sym, _∙_}
+use mathlib.Core.Path.{_∙_}
 use borrow.Author.Needs.{needs}
-use Rattle.frame.specs.Frames.{typeOf}
-use Rattle.frame_body.specs.Body.{bodyType, bodyInRange}
+use borrow.Author.Tests.{not-true, not-false}
 use native.Mathlib.Omega.{arith}
-use Rattle.laws.proofs.Decide.{yes-by-not, nay-by-not}
-use Rattle.frame_body.proofs.Bodies.{range-same}
-use Rattle.frame_body.proofs.Answers.{told-unsupported, told-range, told-short, told-written}
+use Rattle.laws.proofs.Decide.{nay-by-not}
+use Rattle.frame_body.proofs.Answers.{tested, told-unsupported, told-range, told-short, told-written}
 use Rattle.frame_body.proofs.write.Statement.{statement}
 use Rattle.frame_body.proofs.write.Tie as tie
 
@@ -23,8 +20,8 @@ returns-2 c =
     let b = r .before .before in
     let t = b .before in
     let a = t .before .before .before .args in
-    let has : bodyType (typeOf (a .frame)) ≡ true = rw (← (t .type-id .ensures)) (yes-by-not (b .is-body-type .ensures) (r .before .if1 .left)) in
-    told-range (a .frame) (a .payload .now) (a .out .now) has (sym (range-same (a .frame) (a .payload .now) has) ∙ nay-by-not (r .is-in-range .ensures) (c .if2 .taken))
+    let k = tested (a .frame) (a .payload .now) (t .type-id .ensures) (b .is-body-type .ensures) (r .before .if1 .left) (r .is-in-range .ensures) in
+    told-range (a .frame) (a .payload .now) (a .out .now) (k .0, k .1 ∙ not-true _ (c .if2 .taken))
 
 body-len-requires : tie.Need-body-len-requires
 body-len-requires c κs =
@@ -32,8 +29,8 @@ body-len-requires c κs =
     let b = r .before .before in
     let t = b .before in
     let a = t .before .before .before .args in
-    let has : bodyType (typeOf (a .frame)) ≡ true = rw (← (t .type-id .ensures)) (yes-by-not (b .is-body-type .ensures) (r .before .if1 .left)) in
-    sym (range-same (a .frame) (a .payload .now) has) ∙ yes-by-not (r .is-in-range .ensures) (c .if2 .left)
+    let k = tested (a .frame) (a .payload .now) (t .type-id .ensures) (b .is-body-type .ensures) (r .before .if1 .left) (r .is-in-range .ensures) in
+    k .1 ∙ not-false _ (c .if2 .left)
 
 returns-3 : tie.Need-returns-3
 returns-3 c =
@@ -42,9 +39,8 @@ returns-3 c =
     let b = r .before .before in
     let t = b .before in
     let a = t .before .before .before .args in
-    let has : bodyType (typeOf (a .frame)) ≡ true = rw (← (t .type-id .ensures)) (yes-by-not (b .is-body-type .ensures) (r .before .if1 .left)) in
-    let fine : bodyInRange (a .frame) (a .payload .now) ≡ true = sym (range-same (a .frame) (a .payload .now) has) ∙ yes-by-not (r .is-in-range .ensures) (l .before .if2 .left) in
-    told-short (a .frame) (a .payload .now) (a .out .now) has fine (omega arith)
+    let k = tested (a .frame) (a .payload .now) (t .type-id .ensures) (b .is-body-type .ensures) (r .before .if1 .left) (r .is-in-range .ensures) in
+    told-short (a .frame) (a .payload .now) (a .out .now) (k .0, k .1 ∙ not-false _ (l .before .if2 .left)) (omega arith)
 
 put-body-requires : tie.Need-put-body-requires
 put-body-requires c κs =
@@ -53,9 +49,8 @@ put-body-requires c κs =
     let b = r .before .before in
     let t = b .before in
     let a = t .before .before .before .args in
-    let has : bodyType (typeOf (a .frame)) ≡ true = rw (← (t .type-id .ensures)) (yes-by-not (b .is-body-type .ensures) (r .before .if1 .left)) in
-    let fine : bodyInRange (a .frame) (a .payload .now) ≡ true = sym (range-same (a .frame) (a .payload .now) has) ∙ yes-by-not (r .is-in-range .ensures) (l .before .if2 .left) in
-    (fine, omega arith)
+    let k = tested (a .frame) (a .payload .now) (t .type-id .ensures) (b .is-body-type .ensures) (r .before .if1 .left) (r .is-in-range .ensures) in
+    (k .1 ∙ not-false _ (l .before .if2 .left), omega arith)
 
 returns-4 : tie.Need-returns-4
 returns-4 c =
@@ -65,9 +60,8 @@ returns-4 c =
     let b = r .before .before in
     let t = b .before in
     let a = t .before .before .before .args in
-    let has : bodyType (typeOf (a .frame)) ≡ true = rw (← (t .type-id .ensures)) (yes-by-not (b .is-body-type .ensures) (r .before .if1 .left)) in
-    let fine : bodyInRange (a .frame) (a .payload .now) ≡ true = sym (range-same (a .frame) (a .payload .now) has) ∙ yes-by-not (r .is-in-range .ensures) (l .before .if2 .left) in
-    let told = told-written (a .frame) (a .payload .now) (a .out .now) has fine (omega arith) in
+    let k = tested (a .frame) (a .payload .now) (t .type-id .ensures) (b .is-body-type .ensures) (r .before .if1 .left) (r .is-in-range .ensures) in
+    let told = told-written (a .frame) (a .payload .now) (a .out .now) (k .0, k .1 ∙ not-false _ (l .before .if2 .left)) (omega arith) in
     (rw (l .body-len .ensures) (told .0), w .put-body .ensures ∙ told .1)
 
 pub write-spec : {M : Type 1} → statement M
