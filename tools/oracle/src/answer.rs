@@ -51,5 +51,7 @@ pub const SCRIPT: Answer = Answer::Outside("refusal 11");
 pub const INDEX: Answer = Answer::Outside("refusal 9");
 pub const STORE: Answer = Answer::Outside("refusal 24");
 pub const PAGE: Answer = Answer::Outside("refusal 25");
+pub const BODY: Answer = Answer::Outside("refusal 29");
+pub const BUFFER: Answer = Answer::Outside("refusal 30");
 pub const RECORD: Answer = Answer::Outside("no record that a making and calls give (refusal 26, or set)");
 pub const HEADER: Answer = Answer::Outside("a header that no octets can say");

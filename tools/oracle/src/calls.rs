@@ -5,7 +5,7 @@ use crate::directories::Called;
 use crate::machines::{Served, Taken};
 use crate::parties::Party;
 use crate::words::Words;
-use crate::{directories, machines, parties, show, stations, values};
+use crate::{bodies, directories, machines, parties, show, stations, values};
 use iec104::ft::{FileTransferProcedure, checksum};
 
 /// The records and buffers of a list. A record is none where a call has made it one that no making gives.
@@ -59,6 +59,7 @@ fn call(kept: &mut Kept, words: &mut Words, line: &str) -> Option<Answer> {
         "call" => directories::of_call(kept, words, line),
         "party" => parties::of_party(kept, words),
         "run" => parties::run(kept, words),
+        "body" => bodies::of_body(words),
         "file" => of_file(kept, words),
         "store" => of_store(kept, words),
         "damage" => of_damage(kept, words),

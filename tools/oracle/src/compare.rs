@@ -1,12 +1,13 @@
 //! The comparison: lists are made from a seed, played by replay and answered by the Rust, and held against each
 //! other answer by answer.
 //!
-//!     oracle compare [--seed N] [--calls N] [--replay PROGRAM] [--stop N] [--only tables|random|directory]
+//!     oracle compare [--seed N] [--calls N] [--replay PROGRAM] [--stop N] [--only tables|random|directory|bodies]
 //!
 //! Every call is counted as one of: the same; both 4 (both refuse by 4, which document 01 leaves out); an intended
 //! difference, where replay must answer what docs/DIFFERENCES.md says; own (an answer about what a list keeps, which
 //! the Rust is not asked); outside (the Rust cannot be asked, or document 01 leaves it out); a difference. A difference is
 //! printed with the shortest list of calls that shows it; the run ends after `--stop` of them.
+//! The bodies of frames come last, and are not counted in `--calls`.
 
 use crate::answer::Answer;
 use crate::calls::{self, Kept};
@@ -27,6 +28,7 @@ struct Options {
     tables: bool,
     random: bool,
     directory: bool,
+    bodies: bool,
 }
 
 #[derive(Default)]
@@ -54,8 +56,8 @@ struct Comparison {
 
 fn options(words: &[String]) -> Options {
     let replay = "target/bin/replay".into();
-    let mut options =
-        Options { seed: 1, calls: 1_400_000, replay, stop: 10, tables: true, random: true, directory: false };
+    let (tables, random, directory, bodies) = (true, true, false, true);
+    let mut options = Options { seed: 1, calls: 1_400_000, replay, stop: 10, tables, random, directory, bodies };
     let mut words = words.iter();
     while let Some(word) = words.next() {
         let value = words.next().cloned().unwrap_or_default();
@@ -65,8 +67,11 @@ fn options(words: &[String]) -> Options {
             "--calls" => options.calls = number(),
             "--stop" => options.stop = number() as usize,
             "--replay" => options.replay = value,
-            "--only" if value == "directory" => options.directory = true,
-            "--only" => (options.tables, options.random) = (value == "tables", value == "random"),
+            "--only" if value == "directory" => (options.directory, options.bodies) = (true, false),
+            "--only" => {
+                (options.tables, options.random) = (value == "tables", value == "random");
+                options.bodies = value == "bodies";
+            }
             _ => crate::stop(&format!("{word}: --seed, --calls, --stop, --replay and --only are the options")),
         }
     }
@@ -142,7 +147,7 @@ fn judged(oracle: Answer, ours: Option<&str>) -> Verdict {
     match oracle {
         Answer::Outside(why) => Verdict::Outside(why),
         Answer::Said(rust) if Some(rust.as_str()) == ours => {
-            if rust == "refused 4" {
+            if rust == "refused 4" || rust.starts_with("refused 4:") {
                 Verdict::SameFour
             } else {
                 Verdict::Same
@@ -355,6 +360,9 @@ pub fn run(words: &[String]) {
     {
         let case = if directory { generate::directory(&mut random) } else { generate::random(&mut random) };
         comparison.take(case);
+    }
+    if comparison.options.bodies {
+        generate::bodies(comparison.options.seed, &mut |case| comparison.take(case));
     }
     comparison.play();
     eprintln!();

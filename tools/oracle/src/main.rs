@@ -3,11 +3,12 @@
 //!     oracle answer [LIST...]     each call with the Rust's answer behind it; standard input without a list
 //!     oracle transfer             plays the transfer script on standard input, as the program `transfer` prints it
 //!     oracle table                document 01's table of sections, as the Rust gives it
-//!     oracle list ...             the random calls that a comparison with these options makes
+//!     oracle list ...             the random calls that a comparison with these options makes, without the bodies
 //!     oracle compare ...          the comparison (compare.rs)
 //!     oracle vectors ...          the stored vectors (vectors.rs)
 
 mod answer;
+mod bodies;
 mod calls;
 mod compare;
 mod directories;

@@ -43,7 +43,7 @@ fn octets_words(octets: &[u8]) -> String {
     show::octets(octets)
 }
 
-fn beside_words(octets: &[u8]) -> String {
+pub fn beside_words(octets: &[u8]) -> String {
     if octets.is_empty() { String::new() } else { format!(" beside {}", octets_words(octets)) }
 }
 

@@ -1,6 +1,7 @@
 //! The lists of calls that are compared. A case is a list that makes what it needs, so that it can be played
 //! alone. The tables are the same in every run; the others come from the seed.
 
+mod bodies;
 mod directories;
 mod flows;
 mod tables;
@@ -74,6 +75,21 @@ pub fn tables(take: &mut dyn FnMut(Case)) {
 pub fn directory_tables(take: &mut dyn FnMut(Case)) {
     directories::pages(take);
     directories::call(take);
+}
+
+/// The bodies of frames, as many with every seed. Their random numbers are drawn apart from those of the other kinds,
+/// which stay as they are.
+pub fn bodies(seed: u64, take: &mut dyn FnMut(Case)) {
+    let mut random = Random::new(seed);
+    bodies::elements(take);
+    bodies::numbers(take, &mut random);
+    bodies::segments(take, &mut random);
+    bodies::buffers(take);
+    bodies::not_read(take);
+    bodies::refusals(take);
+    for _ in 0..200 {
+        take(bodies::random(&mut random));
+    }
 }
 
 /// A case of a random kind. A Receiver is handed its frames by value or by reference; the Rust has the latter only.
