@@ -168,6 +168,15 @@ fn directories(list: &mut List, random: &mut Random) {
     }
 }
 
+// Bodies of frames: one in so many of each kind, and two lists of random ones.
+fn bodies(list: &mut List, seed: u64, random: &mut Random) {
+    generate::bodies(seed, &mut |case| {
+        if case.kind != "bodies: random" || random.once_in(100) {
+            list.take(&case, 1, 24, random);
+        }
+    });
+}
+
 // A script, played as the transfer program plays it: conventional widths, common address 1, Provider Controlled,
 // budget 65535. What the Rust's machines print of it must be the file *.out.
 fn script(list: &mut List, path: &Path) {
@@ -219,10 +228,12 @@ fn lists(seed: u64, folder: &Path) -> Vec<List> {
     let mut directory = List::new("rust_directory", "a directory's pages, and its call");
     directory_tables(&mut directory, &mut random);
     directories(&mut directory, &mut random);
+    let mut written = List::new("rust_bodies", "bodies of frames");
+    bodies(&mut written, seed, &mut random);
     let mut played =
         List::new("rust_scripts", "the scripts tools/scripts/*.in, played as the transfer program plays them");
     scripts(&mut played, folder);
-    lists.extend([directory, played]);
+    lists.extend([directory, written, played]);
     lists
 }
 
