@@ -66,14 +66,14 @@ impl DirectoryEntry {
 // ---- Entry to octets
 
 // Of a number's two octets the lower, which goes first.
-pub fn low_octet(x: u16) -> u8
+fn low_octet(x: u16) -> u8
     ensures { λ r. ⌜ r ≡ x % 256 ⌝ }
 {
     (x % 256) as u8
 }
 
 // Of a number's two octets the higher.
-pub fn high_octet(x: u16) -> u8
+fn high_octet(x: u16) -> u8
     ensures { λ r. ⌜ r ≡ x / 256 ⌝ }
 {
     (x / 256) as u8

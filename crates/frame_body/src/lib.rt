@@ -13,8 +13,6 @@ use asdu::Nos;
 use asdu::Scq;
 use asdu::Srq;
 use asdu::TypeId;
-use asdu::entry::high_octet;
-use asdu::entry::low_octet;
 use asdu::entry::weight_of;
 use frame::Frame;
 use frame::range;
@@ -91,8 +89,9 @@ fn put_nof(out: &mut [u8], nof: Nof)
     requires { ⌜ 2 ≤ length (now out) ⌝ }
     ensures { λ _. ⌜ now (out .exit) ≡ written (now (out .entry)) 0 (nofOctets nof) ⌝ }
 {
-    put_octet(out, 0, low_octet(nof.value));
-    put_octet(out, 1, high_octet(nof.value));
+    let name = nof.value;
+    put_octet(out, 0, (name % 256) as u8);
+    put_octet(out, 1, (name / 256) as u8);
 }
 
 // Puts a length of file or section from a place on, the lowest octet first.

@@ -1,4 +1,4 @@
-use mathlib.Core.Path.{sym, _∙_}
+use mathlib.Core.Path.{sym}
 use borrow.Author.Needs.{needs}
 use lib.ListN.{length}
 use Rattle.store.proofs.Written.{written-none}
@@ -27,16 +27,16 @@ put-body-spec =
     (λ c. search needs)
     (λ c. search needs)
     (λ c. search needs)
-    (λ c. let p = c .before .before in p .put-file-ready .ensures ∙ simp (p .before .before .before .frame .given .1))
+    (λ c. let p = c .before .before in rw (p .before .before .before .frame .given .1) (p .put-file-ready .ensures))
     (λ c. search needs)
-    (λ c. let p = c .before .before in p .put-section-ready .ensures ∙ simp (p .before .before .before .frame2 .given .1))
+    (λ c. let p = c .before .before in rw (p .before .before .before .frame2 .given .1) (p .put-section-ready .ensures))
     (λ c. search needs)
-    (λ c. let p = c .before .before in p .put-front .ensures ∙ simp (p .before .scq-octet .ensures, p .before .before .before .before .frame3 .given .1))
+    (λ c. let p = c .before .before in rw (p .before .before .before .before .frame3 .given .1, ← (p .before .scq-octet .ensures)) (p .put-front .ensures))
     (λ c. search needs)
-    (λ c. let p = c .before .before in p .put-last-section .ensures ∙ simp (p .before .before .before .frame4 .given .1))
+    (λ c. let p = c .before .before in rw (p .before .before .before .frame4 .given .1) (p .put-last-section .ensures))
     (λ c. search needs)
-    (λ c. let p = c .before .before in p .put-front2 .ensures ∙ simp (p .before .afq-octet .ensures, p .before .before .before .before .frame5 .given .1))
+    (λ c. let p = c .before .before in rw (p .before .before .before .before .frame5 .given .1, ← (p .before .afq-octet .ensures)) (p .put-front2 .ensures))
     (λ c. search needs)
-    (λ c. let p = c .before .before in p .put-segment .ensures ∙ simp (p .before .before .before .frame6 .given .1))
+    (λ c. let p = c .before .before in rw (p .before .before .before .frame6 .given .1) (p .put-segment .ensures))
     (λ c. simp (c .enum-told .given .1) (sym (written-none _ 0)))
     (λ c. simp (c .enum-told2 .given .1) (sym (written-none _ 0))))

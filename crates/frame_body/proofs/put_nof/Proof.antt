@@ -7,19 +7,16 @@ use Rattle.frame_body.proofs.put_nof.Tie as tie
 returns : tie.Need-returns
 returns c =
     let second = c .before .before in
-    let high = second .before in
-    let first = high .before .before .before .before in
-    let low = first .before in
-    rw (← (low .low-octet .ensures), ← (high .high-octet .ensures))
-    (then-wrote (wrote (first .put-octet .ensures)) (wrote (second .put-octet2 .ensures)) (omega arith) (omega arith) .text)
+    let first = second .before .before .before .before in
+    then-wrote (wrote (first .put-octet .ensures)) (wrote (second .put-octet2 .ensures)) (omega arith) (omega arith) .text
 
 pub put-nof-spec : {M : Type 1} → statement M
 put-nof-spec =
     tie.close
     (tie.spec
+    (λ c. search needs)
     (λ c κs. search needs)
-    (λ c κs. search needs)
-    (λ c κs. search needs)
+    (λ c. search needs)
     (λ c κs. search needs)
     (λ c. search needs)
     returns)
