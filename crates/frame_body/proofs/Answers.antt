@@ -9,6 +9,7 @@ use borrow.Author.Tests.{le-leb, lt-leb}
 use Rattle.laws.specs.When.{when, unless, _and_}
 use Rattle.laws.proofs.Decide.{whens, yes-by-not}
 use Rattle.store.specs.Store.{written}
+use Rattle.asdu.specs.declared.AddressSizes.{AddressSizes}
 use Rattle.asdu.specs.declared.FtError.{FtError}
 use Rattle.asdu.specs.declared.FtError.the-variants.{ValueOutOfRange, UnsupportedType, BufferTooShort}
 use Rattle.frame.specs.Frames.{typeOf}
@@ -17,7 +18,7 @@ use Rattle.frame.specs.declared.Frame.{Frame}
 use Rattle.frame_body.specs.Body.{bodyType, bodyOf, bodyInRange, bodyFits, writeAnswer, outAfter}
 use Rattle.frame_body.specs.declared.WriteResult.{WriteResult}
 use Rattle.frame_body.specs.declared.WriteResult.the-variants.{Ok, Err}
-use Rattle.frame_body.proofs.Bodies.{narrowest, range-same}
+use Rattle.frame_body.proofs.Bodies.{narrowest, range-same, in-range-any, body-most}
 
 module _ (f : Frame) (p out : List ℕ) where
   -- this is answered, and the buffer is then so
@@ -61,3 +62,12 @@ pub refusal-keeps : (f : Frame) (p out : List ℕ) (x : FtError) → writeAnswer
 unfolding writeAnswer outAfter
 refusal-keeps f p out x e =
     kept (bodyType (typeOf f)) (bodyInRange f p) (bodyFits f p (length out)) (length (bodyOf f p)) x (written out 0 (bodyOf f p)) out e
+
+-- the body of every frame in range, whatever the widths, is written into a buffer of 244 octets or more
+pub in-range-written : (z : AddressSizes) (f : Frame) (p out : List ℕ) → bodyType (typeOf f) ≡ true → valuesInRange z f p ≡ true → 244 ≤ length out
+    → (writeAnswer f p (length out) ≡ Ok (length (bodyOf f p))) × (outAfter f p out ≡ written out 0 (bodyOf f p))
+in-range-written z f p out t h room =
+    let r = in-range-any z f p t h in
+    let most = body-most f p r in
+    let told = told-written f p out (t, r) (omega arith) in
+    (sym (told .0), sym (told .1))

@@ -1,14 +1,13 @@
 -- What it is in numbers that a frame's body is in range and has room, kind by kind; how long a body is; and that document 01's ranges at the narrowest widths are those of a body.
 use Prim.Native.Nat.{ℕ, _+_, _≤_}
 use mathlib.Core.Bool.{Bool, true, false, true≢false}
-use mathlib.Core.Path.{_≡_, refl, sym, _∙_}
+use mathlib.Core.Path.{_≡_, refl, sym}
 use mathlib.Core.List.{List}
 use native.Mathlib.Omega.{arith}
 use lib.Dec.{eqb, leb}
 use lib.ListN.{length}
 use borrow.Author.Tests.{leb-true, le-leb, eqb-true}
 use Rattle.laws.specs.When.{when, _and_}
-use Rattle.laws.proofs.Decide.{whens}
 use Rattle.asdu.specs.Elements.{scqInRange, afqInRange, losInRange}
 use Rattle.asdu.specs.Sizes.{segmentLimit, elementRoom, headerLen}
 use Rattle.asdu.specs.declared.AddressSizes.{AddressSizes}
@@ -122,3 +121,17 @@ range-same (Ack ioa nof nos afq) p h = refl
 range-same (Segment ioa nof nos los) p h = segment-same los p
 range-same (Directory ioa cause) p h = absurd (true≢false (sym h))
 range-same (QueryLog ioa nof start stop) p h = absurd (true≢false (sym h))
+
+-- in range at any widths, as a station admits and builds frames, is in range as a body
+pub in-range-any : (z : AddressSizes) (f : Frame) (p : List ℕ) → bodyType (typeOf f) ≡ true → valuesInRange z f p ≡ true → bodyInRange f p ≡ true
+unfolding bodyType segmentInRange when
+in-range-any z (FileReady ioa nof lof frq) p t h = h
+in-range-any z (SectionReady ioa nof nos lof srq) p t h = h
+in-range-any z (Sc ioa nof nos scq) p t h = h
+in-range-any z (LastSection ioa nof nos lsq chs) p t h = h
+in-range-any z (Ack ioa nof nos afq) p t h = h
+in-range-any z (Segment ioa nof nos los) p t h =
+    let k = both (losInRange los) (eqb (los .value) (length p) and leb (length p) (segmentLimit z)) h in
+    rw (k .0) (both (eqb (los .value) (length p)) (leb (length p) (segmentLimit z)) (k .1) .0)
+in-range-any z (Directory ioa cause) p t h = absurd (true≢false (sym t))
+in-range-any z (QueryLog ioa nof start stop) p t h = absurd (true≢false (sym t))

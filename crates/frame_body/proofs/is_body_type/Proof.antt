@@ -1,6 +1,4 @@
-use borrow.Author.Needs.{needs}
 use borrow.Author.Tests.{le-leb, lt-leb}
-use native.Mathlib.Omega.{arith}
 use Rattle.laws.proofs.Decide.{whens}
 use Rattle.frame_body.specs.Body.{bodyType}
 use Rattle.frame_body.proofs.is_body_type.Statement.{statement}
