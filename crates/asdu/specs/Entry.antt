@@ -25,7 +25,7 @@ entryInRange e = lofInRange (e .lof) and sofInRange (e .sof) and timeInRange (e 
 
 -- ---- entry to octets
 
--- the lowest octet first
+-- NOF in two octets and LOF in three (7.2.6.33, 7.2.6.35), the lowest first
 abbrev pub nofOctets : Nof → List ℕ
 nofOctets n = n .value % 256 ∷ n .value / 256 ∷ []
 

@@ -65,14 +65,6 @@ module _ {f : Frame} (p : List ℕ) (n : ℕ) (fits : (bodyInRange f p ≡ true)
   pub segment-fits : {ioa : ℕ} {nof : Nof} {nos : Nos} {los : Los} → f ≡ Segment ioa nof nos los → 4 + length p ≤ n
   segment-fits e = let h = rw e at (fits .1) in omega arith
 
--- a segment's LOS is the length of its payload, so its body has 4 + LOS octets
-pub segment-long : (p : List ℕ) {f : Frame} {ioa : ℕ} {nof : Nof} {nos : Nos} {los : Los} → f ≡ Segment ioa nof nos los → bodyInRange f p ≡ true
-    → 4 + los .value ≡ length (bodyOf f p)
-segment-long p {los = los} e fits =
-    let h = rw e at fits in
-    let same : los .value ≡ length p = eqb-true _ _ (both _ _ h .1) in
-    simp e (omega arith)
-
 -- no body is longer than 244 octets
 pub body-most : (f : Frame) (p : List ℕ) → bodyInRange f p ≡ true → length (bodyOf f p) ≤ 244
 unfolding losInRange

@@ -32,7 +32,7 @@ bodyOf (Segment ioa nof nos los) payload = nofOctets nof ++ nos .value ∷ los .
 bodyOf (Directory ioa cause) payload = []
 bodyOf (QueryLog ioa nof start stop) payload = []
 
--- every element within its range, LOS 1 to 240 and the payload's length: else 4
+-- every element within its range, LOS 1 to 240 and the payload's length: else 4. Types 126 and 127 have no element here
 abbrev pub bodyInRange : Frame → List ℕ → Bool
 bodyInRange (FileReady ioa nof lof frq) payload = lofInRange lof and frqInRange frq
 bodyInRange (SectionReady ioa nof nos lof srq) payload = lofInRange lof and srqInRange srq

@@ -199,7 +199,6 @@ fn is_body_type(type_id: u8) -> bool
 
 // How many octets the body has.
 fn body_len(frame: Frame, payload: &[u8]) -> usize
-    requires { ⌜ bodyInRange frame (now payload) ≡ true ⌝ }
     ensures { λ r. ⌜ r ≡ length (bodyOf frame (now (payload .entry))) ⌝ }
 {
     match frame {
@@ -208,7 +207,7 @@ fn body_len(frame: Frame, payload: &[u8]) -> usize
         Frame::Sc { .. } => 4,
         Frame::LastSection { .. } => 5,
         Frame::Ack { .. } => 4,
-        Frame::Segment { los, .. } => 4 + los.value as usize,
+        Frame::Segment { .. } => 4 + payload.len(),
         Frame::Directory { .. } => 0,
         Frame::QueryLog { .. } => 0,
     }

@@ -1,5 +1,5 @@
 use borrow.Author.Needs.{needs}
-use Rattle.frame_body.proofs.Bodies.{segment-long}
+use native.Mathlib.Omega.{arith}
 use Rattle.frame_body.proofs.body_len.Statement.{statement}
 use Rattle.frame_body.proofs.body_len.Tie as tie
 
@@ -21,7 +21,6 @@ body-len-spec =
     (λ c. search needs)
     (λ c. search needs)
     (λ c. search needs)
-    (λ c. search needs)
-    (λ c. let s = c .before .before .before .before in segment-long (s .args .payload .now) (c .before .before .frame .given .1) (s .pre))
+    (λ c. simp (c .enum-told6 .given .1) (omega arith))
     (λ c. search needs)
     (λ c. search needs))

@@ -23,15 +23,6 @@ returns-2 c =
     let k = tested (a .frame) (a .payload .now) (t .type-id .ensures) (b .is-body-type .ensures) (r .before .if1 .left) (r .is-in-range .ensures) in
     told-range (a .frame) (a .payload .now) (a .out .now) (k .0, k .1 ∙ not-true _ (c .if2 .taken))
 
-body-len-requires : tie.Need-body-len-requires
-body-len-requires c κs =
-    let r = c .before in
-    let b = r .before .before in
-    let t = b .before in
-    let a = t .before .before .before .args in
-    let k = tested (a .frame) (a .payload .now) (t .type-id .ensures) (b .is-body-type .ensures) (r .before .if1 .left) (r .is-in-range .ensures) in
-    k .1 ∙ not-false _ (c .if2 .left)
-
 returns-3 : tie.Need-returns-3
 returns-3 c =
     let l = c .before in
@@ -73,7 +64,7 @@ write-spec =
     returns
     (λ c κs. search needs)
     returns-2
-    body-len-requires
+    (λ c κs. search needs)
     returns-3
     put-body-requires
     (λ c. search needs)
