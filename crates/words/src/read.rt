@@ -309,9 +309,11 @@ fn begun(line: &[u8], entry: &[u8], args: &mut Numbers) -> usize {
 // behind a colon the letters of what follows. What follows is read, and the line is written, for the
 // answer to follow it.
 pub fn call(line: &[u8], calls: &[u8], args: &mut Numbers, octets: &mut Octets) -> u8 {
+    let mut start = 0;
     let mut i: u8 = 0;
     while i < 40 {
-        let entry = text::part(calls, b'\n', i);
+        let end = text::find(calls, start, b'\n');
+        let entry = text::between(calls, start, end);
         let place = begun(line, entry, args);
         let count = ending(line, place, text::last(entry), octets);
         if count <= 9216 {
@@ -319,6 +321,10 @@ pub fn call(line: &[u8], calls: &[u8], args: &mut Numbers, octets: &mut Octets) 
             write::call(line);
             return i;
         }
+        if calls.len() <= end {
+            return MISSING;
+        }
+        start = text::behind(end);
         i += 1;
     }
     MISSING

@@ -4,10 +4,10 @@ use Rattle.words.proofs.read.call.Statement.{statement}
 use Rattle.words.proofs.read.call.Tie as tie
 
 abbrev Inv-loop : tie.InvT-loop
-Inv-loop line calls args₀ octets₀ i₀ args octets i = Unit {0}
+Inv-loop line calls args₀ octets₀ start₀ i₀ args octets start i = Unit {0}
 
 abbrev μ-loop : tie.MeasureT-loop
-μ-loop line calls args₀ octets₀ i₀ args octets i = 40 - i
+μ-loop line calls args₀ octets₀ start₀ i₀ args octets start i = 40 - i
 
 pub call-spec : {M : Type 1} → statement M
 call-spec =
@@ -20,9 +20,12 @@ call-spec =
     (λ c κs. search needs)
     (λ c κs. search needs)
     (λ c κs. search needs)
+    (λ c κs. search needs)
     (λ c. search needs)
     (λ c κs. search needs)
     (λ c. search needs)
+    (λ c. search needs)
+    (λ c κs. search needs)
     (λ c. search needs)
     (λ c. search needs)
     (λ c. search needs)
