@@ -21,7 +21,7 @@ use Rattle.frame_body.specs.declared.WriteResult.the-variants.{Ok, Err}
 unfoldable pub bodyType : ℕ → Bool
 bodyType t = leb «F_FR_NA_1» t and leb t «F_SG_NA_1»
 
--- NOF 2 octets, NOS 1, LOF 3, LOS, CHS and each qualifier 1; behind a segment's LOS its payload, which beside another kind is not read
+-- NOF 2 octets, NOS 1, LOF 3, LOS, CHS and each qualifier 1; behind a segment's LOS its payload, which beside another kind is not read. Types 126 and 127 have no body here
 abbrev pub bodyOf : Frame → List ℕ → List ℕ
 bodyOf (FileReady ioa nof lof frq) payload = nofOctets nof ++ lofOctets lof ++ frqOctet frq ∷ []
 bodyOf (SectionReady ioa nof nos lof srq) payload = nofOctets nof ++ nos .value ∷ lofOctets lof ++ srqOctet srq ∷ []
@@ -32,7 +32,7 @@ bodyOf (Segment ioa nof nos los) payload = nofOctets nof ++ nos .value ∷ los .
 bodyOf (Directory ioa cause) payload = []
 bodyOf (QueryLog ioa nof start stop) payload = []
 
--- every element within its range, LOS 1 to 240 and the payload's length: else 4. Types 126 and 127 have no element here
+-- every element within its range, LOS 1 to 240 and the payload's length: else 4. Of a frame without a body nothing is
 abbrev pub bodyInRange : Frame → List ℕ → Bool
 bodyInRange (FileReady ioa nof lof frq) payload = lofInRange lof and frqInRange frq
 bodyInRange (SectionReady ioa nof nos lof srq) payload = lofInRange lof and srqInRange srq
