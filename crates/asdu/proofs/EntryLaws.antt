@@ -24,7 +24,7 @@ use Rattle.asdu.proofs.Range.{both, time-fits, entry-fits}
 -- ---- flags as numbers
 
 -- a flag is its weight, once or not at all
-flag-times : (w : ℕ) (b : Bool) → flag w b ≡ w * flag 1 b
+pub flag-times : (w : ℕ) (b : Bool) → flag w b ≡ w * flag 1 b
 unfolding flag when
 flag-times w true = omega arith
 flag-times w false = omega arith
@@ -40,7 +40,7 @@ flag-read true = refl
 flag-read false = refl
 
 -- the bit of weight w is the flag, with less than w below it and whole doubles of w above it
-bit-back : (w x below above : ℕ) (b : Bool) → below < w → x ≡ (above * 2 + flag 1 b) * w + below → bitOf w x ≡ b
+pub bit-back : (w x below above : ℕ) (b : Bool) → below < w → x ≡ (above * 2 + flag 1 b) * w + below → bitOf w x ≡ b
 unfolding bitOf
 bit-back w x below above b h e = rw (e, digits-div (above * 2 + flag 1 b) h, digits-mod above (flag-most b)) (flag-read b)
 
@@ -97,14 +97,19 @@ module _ (t : Cp56Time2a) (h : timeInRange t ≡ true) where
       let year : t .years % 128 ≡ t .years = omega arith in
       simp (ms, m .0, m .1, m .2, o .0, o .1, day, week, month, year)
 
+-- a name and a length, at any size
+pub nof-back : (n : ℕ) → n % 256 + 256 * (n / 256) ≡ n
+nof-back n = omega arith
+
+pub lof-back : (n : ℕ) → n % 256 + 256 * (n / 256 % 256) + 65536 * (n / 65536) ≡ n
+lof-back n = omega arith
+
 module _ (e : DirectoryEntry) (h : entryInRange e ≡ true) where
   entry-back : entryOf (entryOctets e) ≡ e
   unfolding entryOf entryOctets
   entry-back =
       let f = entry-fits e h in
-      let nof : e .nof .value % 256 + 256 * (e .nof .value / 256) ≡ e .nof .value = omega arith in
-      let lof : e .lof .value % 256 + 256 * (e .lof .value / 256 % 256) + 65536 * (e .lof .value / 65536) ≡ e .lof .value = omega arith in
-      simp (nof, lof, sof-back (e .sof) (f .sof), time-back (e .time) (f .time))
+      simp (nof-back (e .nof .value), lof-back (e .lof .value), sof-back (e .sof) (f .sof), time-back (e .time) (f .time))
 
   clear-back : reservedClear (entryOctets e) ≡ true
   unfolding reservedClear entryOctets timeOctets
@@ -130,7 +135,7 @@ flag-digit w zero h = omega arith
 flag-digit w (suc zero) h = omega arith
 flag-digit w (suc (suc d)) h = absurd (omega arith)
 
-flag-bit : (w x : ℕ) → flag w (bitOf w x) ≡ w * (x / w % 2)
+pub flag-bit : (w x : ℕ) → flag w (bitOf w x) ≡ w * (x / w % 2)
 unfolding bitOf
 flag-bit w x = flag-digit w (x / w % 2) (omega arith)
 
@@ -143,11 +148,11 @@ sof-again x h =
     rw (flag-bit 32 x, flag-bit 64 x, flag-bit 128 x) (omega arith)
 
 -- the elements of a list by their places, n of them from i on
-abbrev places : ℕ → ℕ → List ℕ → List ℕ
+abbrev pub places : ℕ → ℕ → List ℕ → List ℕ
 places zero i o = []
 places (suc n) i o = getD o i 0 ∷ places n (suc i) o
 
-places-all : (n i : ℕ) (o : List ℕ) → i + n ≡ length o → places n i o ≡ drop i o
+pub places-all : (n i : ℕ) (o : List ℕ) → i + n ≡ length o → places n i o ≡ drop i o
 places-all zero i o h = let none : length o ≤ i = omega arith in sym (drop-of-length-le o none)
 places-all (suc n) i o h =
     let more : i < length o = omega arith in
@@ -166,11 +171,18 @@ hours-again x h c =
     let q : x / 128 % 2 ≡ x / 128 = omega arith in
     rw (flag-bit 128 x) (omega arith)
 
-low-again : (x y : ℕ) → x < 256 → (x + 256 * y) % 256 ≡ x
+pub low-again : (x y : ℕ) → x < 256 → (x + 256 * y) % 256 ≡ x
 low-again x y h = omega arith
 
-high-again : (x y : ℕ) → x < 256 → (x + 256 * y) / 256 ≡ y
+pub high-again : (x y : ℕ) → x < 256 → (x + 256 * y) / 256 ≡ y
 high-again x y h = omega arith
+
+-- the three octets of a length
+pub lof-again : (x y z : ℕ) → x < 256 → y < 256
+    → ((x + 256 * y + 65536 * z) % 256 ≡ x) × ((x + 256 * y + 65536 * z) / 256 % 256 ≡ y) × ((x + 256 * y + 65536 * z) / 65536 ≡ z)
+lof-again x y z h k =
+    let upper : (x + 256 * y + 65536 * z) / 256 ≡ y + 256 * z = omega arith in
+    (omega arith, rw upper (low-again y z k), omega arith)
 
 module _ (o : List ℕ) (long : length o ≡ 13) (clear : reservedClear o ≡ true) (small : (i : ℕ) → getD o i 0 < 256) where
   -- the octet at a place
@@ -192,14 +204,8 @@ module _ (o : List ℕ) (long : length o ≡ 13) (clear : reservedClear o ≡ tr
   octets-again : entryOctets (entryOf o) ≡ o
   unfolding entryOctets entryOf
   octets-again =
-      let lof = at 2 + 256 * at 3 + 65536 * at 4 in
-      let s₂ = small 2 in
-      let s₃ = small 3 in
-      let l₀ : lof % 256 ≡ at 2 = omega arith in
-      let l : lof / 256 ≡ at 3 + 256 * at 4 = omega arith in
-      let l₁ : lof / 256 % 256 ≡ at 3 = rw l (low-again (at 3) (at 4) (small 3)) in
-      let l₂ : lof / 65536 ≡ at 4 = omega arith in
-      simp (low-again (at 0) (at 1) (small 0), high-again (at 0) (at 1) (small 0), l₀, l₁, l₂, sof-again (at 5) (small 5), time-again) (places-all 13 0 o (omega arith))
+      let lof = lof-again (at 2) (at 3) (at 4) (small 2) (small 3) in
+      simp (low-again (at 0) (at 1) (small 0), high-again (at 0) (at 1) (small 0), lof .0, lof .1, lof .2, sof-again (at 5) (small 5), time-again) (places-all 13 0 o (omega arith))
 
   range-again : entryInRange (entryOf o) ≡ true
   unfolding entryInRange timeInRange entryOf timeAt sofOf

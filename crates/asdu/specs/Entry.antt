@@ -57,6 +57,13 @@ entryOctets e = nofOctets (e .nof) ++ lofOctets (e .lof) ++ sofOctet (e .sof) �
 
 -- ---- octets to entry
 
+-- NOF of the two octets from the place i on, and LOF of the three
+abbrev pub nofAt : List ℕ → ℕ → Nof
+nofAt o i = record { value = getD o i 0 + 256 * getD o (i + 1) 0 }
+
+abbrev pub lofAt : List ℕ → ℕ → Lof
+lofAt o i = record { value = getD o i 0 + 256 * getD o (i + 1) 0 + 65536 * getD o (i + 2) 0 }
+
 -- the bit of this weight
 unfoldable pub bitOf : ℕ → ℕ → Bool
 bitOf weight octet = eqb (octet / weight % 2) 1
@@ -89,8 +96,8 @@ timeAt o i =
 unfoldable pub entryOf : List ℕ → DirectoryEntry
 entryOf o =
     record {
-      nof = record { value = getD o 0 0 + 256 * getD o 1 0 };
-      lof = record { value = getD o 2 0 + 256 * getD o 3 0 + 65536 * getD o 4 0 };
+      nof = nofAt o 0;
+      lof = lofAt o 2;
       sof = sofOf (getD o 5 0);
       time = timeAt o 6;
     }

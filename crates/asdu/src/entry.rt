@@ -13,7 +13,7 @@ use counts::saturating_sum;
 ghost use mathlib.Core.Path.{_≡_};
 ghost use mathlib.Core.Bool.{true};
 ghost use Prim.Native.Nat.{_+_, _*_, _/_, _%_, _<_, _≤_};
-ghost use lib.ListN.{length, getD};
+ghost use lib.ListN.{length};
 ghost use lib.Seq.{sets};
 ghost use Rattle.asdu.specs.Time.{timeInRange};
 ghost use Rattle.asdu.specs.Entry.{entryInRange, flag, sofOctet, timeOctets, entryOctets, bitOf, sofOf, timeAt, entryOf, reservedClear, packAnswer, packInto, unpacked, allClear, pageRight, entryAddress};
@@ -136,20 +136,18 @@ fn write_entry(entry: DirectoryEntry, out: &mut [u8])
 
 // ---- Octets to entry
 
-// The number of the two octets at this place, the lower first.
-fn two_at(octets: &[u8], at: usize) -> u16
-    requires { ⌜ at + 2 ≤ length (now octets) ⌝ }
-    ensures { λ r. ⌜ r ≡ getD (now (octets .entry)) at 0 + 256 * getD (now (octets .entry)) (at + 1) 0 ⌝ }
+// The number of two octets, the lower first.
+pub fn two_of(low: u8, high: u8) -> u16
+    ensures { λ r. ⌜ r ≡ low + 256 * high ⌝ }
 {
-    octets[at] as u16 + 256 * (octets[at + 1] as u16)
+    low as u16 + 256 * (high as u16)
 }
 
-// The number of the three octets at this place, the lowest first.
-fn three_at(octets: &[u8], at: usize) -> u32
-    requires { ⌜ at + 3 ≤ length (now octets) ⌝ }
-    ensures { λ r. ⌜ r ≡ getD (now (octets .entry)) at 0 + 256 * getD (now (octets .entry)) (at + 1) 0 + 65536 * getD (now (octets .entry)) (at + 2) 0 ⌝ }
+// The number of three octets, the lowest first.
+pub fn three_of(low: u8, middle: u8, high: u8) -> u32
+    ensures { λ r. ⌜ r ≡ low + 256 * middle + 65536 * high ⌝ }
 {
-    two_at(octets, at) as u32 + 65536 * (octets[at + 2] as u32)
+    two_of(low, middle) as u32 + 65536 * (high as u32)
 }
 
 // Whether the bit of this weight is set.
@@ -181,7 +179,7 @@ fn time_of(octets: &[u8]) -> Cp56Time2a
     let hours = octets[9];
     let day = octets[10];
     Cp56Time2a {
-        milliseconds: two_at(octets, 6),
+        milliseconds: two_of(octets[6], octets[7]),
         minutes: minutes % 64,
         substituted: has_bit(64, minutes),
         invalid: has_bit(128, minutes),
@@ -201,10 +199,10 @@ fn entry_of(octets: &[u8]) -> DirectoryEntry
 {
     DirectoryEntry {
         nof: Nof {
-            value: two_at(octets, 0),
+            value: two_of(octets[0], octets[1]),
         },
         lof: Lof {
-            value: three_at(octets, 2),
+            value: three_of(octets[2], octets[3], octets[4]),
         },
         sof: sof_of(octets[5]),
         time: time_of(octets),

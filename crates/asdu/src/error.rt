@@ -31,6 +31,7 @@ impl FtError {
             FtError::PageTooShort => 28,
             FtError::UnsupportedType => 29,
             FtError::BufferTooShort => 30,
+            FtError::MalformedBody => 31,
         }
     }
 }

@@ -175,9 +175,10 @@ pub enum FtError {
     // Of a directory page to print (document 02, A3).
     NotPrintable,
     PageTooShort,
-    // Of a frame's body (document 02, A8).
+    // Of a frame's body (document 02, A8 and A9).
     UnsupportedType,
     BufferTooShort,
+    MalformedBody,
 }
 
 // The widths of a system: octets of the cause, of the common address and of an object address.

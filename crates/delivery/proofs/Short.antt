@@ -6,12 +6,13 @@ use native.Mathlib.Omega.{arith}
 use lib.Dec.{eqb, ltb}
 use lib.ListN.{length, length-take}
 use Rattle.laws.proofs.Choices.{either}
+use Rattle.sections.specs.Sections.{partOctets}
+use Rattle.sections.specs.declared.Part.{Part}
 use Rattle.provide.specs.Record.{fileAgrees}
-use Rattle.provide.specs.Replies.{octetsOf, limitOf, segmentCount, onlyPart, sectionPart, partAt, replyPayload, partOctets, payloadOf}
+use Rattle.provide.specs.Replies.{octetsOf, limitOf, segmentCount, onlyPart, sectionPart, partAt, replyPayload, payloadOf}
 use Rattle.provide.specs.declared.Provider.{Provider}
 use Rattle.requests.specs.declared.Reply.{Reply}
 use Rattle.requests.specs.declared.Reply.the-variants.{Nothing, FileReady, SectionReady, Section, FileClose}
-use Rattle.provide.specs.declared.Part.{Part}
 use Rattle.provide.specs.declared.PartResult.{PartResult}
 use Rattle.provide.specs.declared.PartResult.the-variants as Q
 use Rattle.provide.proofs.Building.{limit-most}

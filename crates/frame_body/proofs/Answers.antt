@@ -5,7 +5,7 @@ use mathlib.Core.Path.{_≡_, refl, sym, _∙_}
 use mathlib.Core.List.{List}
 use native.Mathlib.Omega.{arith}
 use lib.ListN.{length}
-use borrow.Author.Tests.{le-leb, lt-leb}
+use borrow.Author.Tests.{leb-true, le-leb, lt-leb}
 use Rattle.laws.specs.When.{when, unless, _and_}
 use Rattle.laws.proofs.Decide.{whens, yes-by-not}
 use Rattle.store.specs.Store.{written}
@@ -71,3 +71,19 @@ in-range-written z f p out t h room =
     let most = body-most f p r in
     let told = told-written f p out (t, r) (omega arith) in
     (sym (told .0), sym (told .1))
+
+-- what it takes that a body is written; by three tests, one after the other
+passed : (a b d : Bool) (m n : ℕ) → unless a (Err UnsupportedType) (unless b (Err ValueOutOfRange) (unless d (Err BufferTooShort) (Ok m))) ≡ Ok n
+    → (a ≡ true) × (b ≡ true) × (d ≡ true) × (n ≡ m)
+unfolding when
+passed true true true m n e = (refl, refl, refl, cc)
+passed true true false m n e = let z : _≡_ {A = ℕ} 0 1 = cc in absurd (omega arith)
+passed true false d m n e = let z : _≡_ {A = ℕ} 0 1 = cc in absurd (omega arith)
+passed false b d m n e = let z : _≡_ {A = ℕ} 0 1 = cc in absurd (omega arith)
+
+pub when-written : (f : Frame) (p : List ℕ) (len n : ℕ) → writeAnswer f p len ≡ Ok n
+    → (bodyType (typeOf f) ≡ true) × (bodyInRange f p ≡ true) × (length (bodyOf f p) ≤ len) × (n ≡ length (bodyOf f p))
+unfolding writeAnswer bodyFits
+when-written f p len n e =
+    let k = passed (bodyType (typeOf f)) (bodyInRange f p) (bodyFits f p len) (length (bodyOf f p)) n e in
+    (k .0, k .1, leb-true _ _ (k .2), k .3)

@@ -188,7 +188,7 @@ fn put_body(frame: Frame, payload: &[u8], out: &mut [u8])
 // ---- Writing
 
 // Whether frames of a type have a body here.
-fn is_body_type(type_id: u8) -> bool
+pub fn is_body_type(type_id: u8) -> bool
     ensures { λ r. ⌜ r ≡ bodyType «type_id» ⌝ }
 {
     if TypeId::F_FR_NA_1 <= type_id {

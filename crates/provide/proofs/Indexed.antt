@@ -13,9 +13,9 @@ use Rattle.lists.proofs.Parts.{length-parts, part-at}
 use Rattle.asdu.specs.declared.Nos.{Nos}
 use Rattle.asdu.specs.declared.FtError.the-variants as E
 use Rattle.frame.specs.declared.Frame.{Frame}
-use Rattle.sections.specs.Sections.{segments, segmentOctets}
+use Rattle.sections.specs.Sections.{segments, segmentOctets, partOctets}
 use Rattle.provide.specs.Record.{fileAgrees}
-use Rattle.provide.specs.Replies.{Packet, bare, octetsOf, limitOf, segmentPacket, closeFrame, replies, segmentCount, countOf, replyCount, only, segmentOf, sectionFrame, frameAt, replyFrame, onlyPart, sectionPart, partAt, replyPayload, partOctets, payloadOf}
+use Rattle.provide.specs.Replies.{Packet, bare, octetsOf, limitOf, segmentPacket, closeFrame, replies, segmentCount, countOf, replyCount, only, segmentOf, sectionFrame, frameAt, replyFrame, onlyPart, sectionPart, partAt, replyPayload, payloadOf}
 use Rattle.provide.specs.declared.Provider.{Provider}
 use Rattle.requests.specs.declared.Reply.{Reply}
 use Rattle.requests.specs.declared.Reply.the-variants.{Nothing, FileReady, SectionReady, Section, FileClose}

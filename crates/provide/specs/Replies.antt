@@ -3,7 +3,7 @@ use Prim.Native.Nat.{ℕ, _+_, _-_}
 use mathlib.Core.Bool.{false}
 use mathlib.Core.List.{List, [], _∷_, _++_, map}
 use lib.Dec.{eqb, ltb}
-use lib.ListN.{length, take, drop}
+use lib.ListN.{length}
 use Rattle.laws.specs.When.{when, unless}
 use Rattle.lists.specs.Parts.{divCeil}
 use Rattle.asdu.specs.Sizes.{segmentLimit}
@@ -15,7 +15,7 @@ use Rattle.checksum.specs.Checksum.{checksum}
 use Rattle.ft.specs.Building.{built}
 use Rattle.ft.specs.declared.AsduResult.{AsduResult}
 use Rattle.ft.specs.declared.AsduResult.the-variants as A
-use Rattle.sections.specs.Sections.{sectionOctets, segments, segmentOctets, segmentStart}
+use Rattle.sections.specs.Sections.{sectionOctets, segments, segmentOctets, segmentStart, noPart, partOctets}
 use Rattle.provide.specs.Record.{fileAgrees}
 use Rattle.provide.specs.declared.Provider.{Provider}
 use Rattle.requests.specs.declared.Reply.{Reply}
@@ -24,7 +24,6 @@ use Rattle.provide.specs.declared.CountResult.{CountResult}
 use Rattle.provide.specs.declared.CountResult.the-variants as C
 use Rattle.provide.specs.declared.FrameResult.{FrameResult}
 use Rattle.provide.specs.declared.FrameResult.the-variants.{Ok, Err}
-use Rattle.provide.specs.declared.Part.{Part}
 use Rattle.provide.specs.declared.PartResult.{PartResult}
 use Rattle.provide.specs.declared.PartResult.the-variants as Q
 
@@ -118,9 +117,6 @@ replyFrame p file r i = unless (fileAgrees p file) (Err E.RecordMismatch) (frame
 
 -- ---- what stands beside a frame, by where it begins in the file and how long it is
 
-abbrev pub noPart : Part
-noPart = record { start = 0; length = 0 }
-
 -- beside the one frame of a reply nothing does
 unfoldable pub onlyPart : ℕ → PartResult
 onlyPart i = when (eqb i 0) (Q.Ok noPart) (Q.Err E.IndexOutOfRange)
@@ -142,10 +138,6 @@ partAt p file (FileClose nos) i = onlyPart i
 -- 26 first; an index not below the count is 9
 unfoldable pub replyPayload : Provider → List ℕ → Reply → ℕ → PartResult
 replyPayload p file r i = unless (fileAgrees p file) (Q.Err E.RecordMismatch) (partAt p file r i)
-
--- the octets of a part
-unfoldable pub partOctets : Part → List ℕ → List ℕ
-partOctets q file = take (q .length) (drop (q .start) file)
 
 abbrev pub payloadOf : List ℕ → PartResult → List ℕ
 payloadOf file (Q.Ok q) = partOctets q file

@@ -3,7 +3,6 @@
 // the frame that closes a section or the file reads the octets, to sum them.
 use crate::CountResult;
 use crate::FrameResult;
-use crate::Part;
 use crate::PartResult;
 use crate::Provider;
 use asdu::Frq;
@@ -16,10 +15,11 @@ use asdu::Srq;
 use asdu::sizes;
 use frame::Frame;
 use requests::Reply;
+use sections::Part;
 ghost use mathlib.Core.Path.{_≡_};
 ghost use Prim.Native.Nat.{_+_, _≤_};
 ghost use lib.ListN.{length};
-ghost use Rattle.provide.specs.Replies.{fileReady, octetsOf, sectionReady, segmentFrame, closeFrame, limitOf, segmentCount, countOf, replyCount, only, segmentOf, sectionFrame, frameAt, replyFrame, partOctets, onlyPart, sectionPart, partAt, replyPayload, announced};
+ghost use Rattle.provide.specs.Replies.{fileReady, octetsOf, sectionReady, segmentFrame, closeFrame, limitOf, segmentCount, countOf, replyCount, only, segmentOf, sectionFrame, frameAt, replyFrame, onlyPart, sectionPart, partAt, replyPayload, announced};
 
 // The one frame of a reply, at index 0.
 fn only(frame: Frame, index: usize) -> FrameResult
@@ -42,15 +42,6 @@ fn only_part(index: usize) -> PartResult
         });
     }
     PartResult::Err(FtError::IndexOutOfRange)
-}
-
-impl Part {
-    // The octets of this part of a file; what lies past its end is not there.
-    pub fn octets(self, file: &[u8]) -> &[u8]
-        ensures { λ r. ⌜ now r ≡ partOctets self (now (file .entry)) ⌝ }
-    {
-        sections::cut(file, self.start, self.length)
-    }
 }
 
 impl Provider {

@@ -9,6 +9,7 @@ use asdu::Nof;
 use frame::Frame;
 use ft::FileTransferProcedure;
 use requests::ProviderAnswer;
+use sections::Part;
 
 // The record of one file's transfer.
 pub struct Provider {
@@ -49,12 +50,6 @@ pub enum CountResult {
 pub enum FrameResult {
     Ok(Frame),
     Err(FtError),
-}
-
-// A part of the lent file: where it begins, and how long it is.
-pub struct Part {
-    pub start: usize,
-    pub length: usize,
 }
 
 pub enum PartResult {

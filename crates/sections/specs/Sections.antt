@@ -5,6 +5,7 @@ use lib.Dec.{eqb}
 use lib.ListN.{length, take, drop}
 use Rattle.laws.specs.When.{when}
 use Rattle.lists.specs.Parts.{divCeil, parts}
+use Rattle.sections.specs.declared.Part.{Part}
 
 -- of a file of n octets: the larger of 4,096 and n / 255 rounded up
 unfoldable pub sectionLength : ℕ → ℕ
@@ -33,3 +34,12 @@ segmentOctets limit section i = take limit (drop (i * limit) section)
 -- where it begins in the file
 unfoldable pub segmentStart : ℕ → ℕ → ℕ → ℕ → ℕ
 segmentStart size limit nos i = (nos - 1) * size + i * limit
+
+-- ---- a part of lent octets, by where it begins and how long it is
+
+abbrev pub noPart : Part
+noPart = record { start = 0; length = 0 }
+
+-- its octets; what lies past the end is not there
+unfoldable pub partOctets : Part → List ℕ → List ℕ
+partOctets q whole = take (q .length) (drop (q .start) whole)

@@ -8,13 +8,19 @@ ghost use mathlib.Core.Path.{_≡_};
 ghost use Prim.Native.Nat.{_+_, _*_, _≤_, _<_};
 ghost use lib.ListN.{take, drop};
 ghost use Rattle.lists.specs.Parts.{divCeil};
-ghost use Rattle.sections.specs.Sections.{sectionLength, sectionCount, sectionOctets, segmentOctets, segmentStart};
+ghost use Rattle.sections.specs.Sections.{sectionLength, sectionCount, sectionOctets, segmentOctets, segmentStart, partOctets};
 
 // The section length of a file that needs no longer ones.
 pub const DEFAULT_SECTION_LEN: u32 = 4096;
 
 // The most sections that a NOS can name.
 const MAX_SECTIONS: usize = 255;
+
+// A part of lent octets: where it begins, and how long it is.
+pub struct Part {
+    pub start: usize,
+    pub length: usize,
+}
 
 // How many parts of a size a length has, the last perhaps shorter.
 fn div_ceil(length: usize, size: usize) -> usize
@@ -80,8 +86,17 @@ pub fn cut(octets: &[u8], at: usize, length: usize) -> &[u8]
     &octets[start..end]
 }
 
+impl Part {
+    // The octets of this part of a file or a body; what lies past its end is not there.
+    pub fn octets(self, whole: &[u8]) -> &[u8]
+        ensures { λ r. ⌜ now r ≡ partOctets self (now (whole .entry)) ⌝ }
+    {
+        cut(whole, self.start, self.length)
+    }
+}
+
 // The part of this size at an index from 0; empty past the end.
-fn part(octets: &[u8], size: usize, index: usize) -> &[u8]
+fn part_at(octets: &[u8], size: usize, index: usize) -> &[u8]
     requires { ⌜ (size ≤ 0xFFFFFFFF) × (index ≤ 0xFFFFFFFF) ⌝ }
     ensures { λ r. ⌜ now r ≡ take size (drop (index * size) (now (octets .entry))) ⌝ }
 {
@@ -94,14 +109,14 @@ pub fn section(file: &[u8], size: u32, nos: Nos) -> &[u8]
 {
     let name = nos.value as usize;
     if name == 0 {
-        return part(file, 0, 0);
+        return part_at(file, 0, 0);
     }
-    part(file, size as usize, name - 1)
+    part_at(file, size as usize, name - 1)
 }
 
 // Segment `index` of a section, where a segment can hold `limit` octets; empty past the end.
 pub fn segment(section: &[u8], limit: u8, index: u32) -> &[u8]
     ensures { λ r. ⌜ now r ≡ segmentOctets limit (now (section .entry)) index ⌝ }
 {
-    part(section, limit as usize, index as usize)
+    part_at(section, limit as usize, index as usize)
 }

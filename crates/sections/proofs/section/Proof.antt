@@ -12,7 +12,7 @@ section-spec =
     (tie.spec
     (λ c. search needs)
     (λ c κs. search needs)
-    (λ c. simp (whens, eq-eqb _ _ (c .before .if1 .taken), ← (c .part .ensures)))
+    (λ c. simp (whens, eq-eqb _ _ (c .before .if1 .taken), ← (c .part-at .ensures)))
     (λ c. search needs)
     (λ c κs. search needs)
-    (λ c. simp (whens, ne-eqb _ _ (c .before .if1 .left), ← (c .part2 .ensures))))
+    (λ c. simp (whens, ne-eqb _ _ (c .before .if1 .left), ← (c .part-at2 .ensures))))

@@ -8,9 +8,14 @@ unfolding entryOf
 entry-of-spec =
     tie.close
     (tie.spec
+    (λ c. search needs)
+    (λ c. search needs)
     (λ c κs. search needs)
+    (λ c. search needs)
+    (λ c. search needs)
+    (λ c. search needs)
     (λ c κs. search needs)
     (λ c. search needs)
     (λ c κs. search needs)
     (λ c κs. search needs)
-    (λ c. simp (← (c .time-of .ensures), ← (c .before .sof-of .ensures), ← (c .before .before .before .three-at .ensures), ← (c .before .before .before .before .two-at .ensures))))
+    (λ c. simp (← (c .time-of .ensures), ← (c .before .sof-of .ensures), ← (c .before .before .before .three-of .ensures), ← (c .before .before .before .before .before .before .before .two-of .ensures))))

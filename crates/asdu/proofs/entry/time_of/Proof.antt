@@ -11,6 +11,8 @@ time-of-spec =
     (λ c. search needs)
     (λ c. search needs)
     (λ c. search needs)
+    (λ c. search needs)
+    (λ c. search needs)
     (λ c κs. search needs)
     (λ c κs. search needs)
     (λ c κs. search needs)
@@ -22,5 +24,5 @@ time-of-spec =
       ← (c .before .before .has-bit3 .ensures),
       ← (c .before .before .before .has-bit2 .ensures),
       ← (c .before .before .before .before .has-bit .ensures),
-      ← (c .before .before .before .before .before .two-at .ensures),
+      ← (c .before .before .before .before .before .two-of .ensures),
     )))

@@ -1,0 +1,4 @@
+pub mod Elements
+pub mod Bodies
+pub mod Written
+pub mod Worked

@@ -1,0 +1,21 @@
+use mathlib.Core.Path.{sym}
+use borrow.Author.Needs.{needs}
+use native.Mathlib.Omega.{arith}
+use Rattle.laws.proofs.Decide.{whens, yes, nay}
+use Rattle.body_reader.specs.Reading.{segmentFormed}
+use Rattle.body_reader.proofs.Bodies.{short-segment}
+use Rattle.body_reader.proofs.is_segment.Statement.{statement}
+use Rattle.body_reader.proofs.is_segment.Tie as tie
+
+pub is-segment-spec : {M : Type 1} → statement M
+unfolding segmentFormed
+is-segment-spec =
+    tie.close
+    (tie.spec
+    (λ c. sym (short-segment (c .before .before .args .body .now) (omega arith)))
+    (λ c. search needs)
+    (λ c κs. search needs)
+    (λ c. search needs)
+    (λ c. search needs)
+    (λ c. simp (whens, yes (c .before .before .is-in-range .ensures) (c .before .if2 .taken)))
+    (λ c. simp (whens, nay (c .before .is-in-range .ensures) (c .if2 .left))))

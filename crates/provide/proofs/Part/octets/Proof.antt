@@ -1,8 +1,0 @@
-use borrow.Author.Needs.{needs}
-use Rattle.provide.specs.Replies.{partOctets}
-use Rattle.provide.proofs.Part.octets.Statement.{statement}
-use Rattle.provide.proofs.Part.octets.Tie as tie
-
-pub octets-spec : {M : Type 1} → statement M
-unfolding partOctets
-octets-spec = tie.close (tie.spec (λ c κs. search needs) (λ c. search needs))
