@@ -7,7 +7,7 @@
 //! difference, where replay must answer what docs/DIFFERENCES.md says; own (an answer about what a list keeps, which
 //! the Rust is not asked); outside (the Rust cannot be asked, or document 01 leaves it out); a difference. A difference is
 //! printed with the shortest list of calls that shows it; the run ends after `--stop` of them.
-//! The bodies of frames come last, and are not counted in `--calls`.
+//! The bodies of frames, written and then read, come last, and are not counted in `--calls`.
 
 use crate::answer::Answer;
 use crate::calls::{self, Kept};
@@ -363,6 +363,7 @@ pub fn run(words: &[String]) {
     }
     if comparison.options.bodies {
         generate::bodies(comparison.options.seed, &mut |case| comparison.take(case));
+        generate::readings(comparison.options.seed, &mut |case| comparison.take(case));
     }
     comparison.play();
     eprintln!();

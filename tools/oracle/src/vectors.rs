@@ -177,6 +177,15 @@ fn bodies(list: &mut List, seed: u64, random: &mut Random) {
     });
 }
 
+// Bodies that are read: one in so many of each kind, and some lists of random ones.
+fn readings(list: &mut List, seed: u64, random: &mut Random) {
+    generate::readings(seed, &mut |case| {
+        if !case.kind.starts_with("readings: random") || random.once_in(50) {
+            list.take(&case, 1, 32, random);
+        }
+    });
+}
+
 // A script, played as the transfer program plays it: conventional widths, common address 1, Provider Controlled,
 // budget 65535. What the Rust's machines print of it must be the file *.out.
 fn script(list: &mut List, path: &Path) {
@@ -230,10 +239,12 @@ fn lists(seed: u64, folder: &Path) -> Vec<List> {
     directories(&mut directory, &mut random);
     let mut written = List::new("rust_bodies", "bodies of frames");
     bodies(&mut written, seed, &mut random);
+    let mut read = List::new("rust_readings", "bodies of frames, read");
+    readings(&mut read, seed, &mut random);
     let mut played =
         List::new("rust_scripts", "the scripts tools/scripts/*.in, played as the transfer program plays them");
     scripts(&mut played, folder);
-    lists.extend([directory, written, played]);
+    lists.extend([directory, written, read, played]);
     lists
 }
 

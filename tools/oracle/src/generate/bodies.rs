@@ -1,27 +1,27 @@
 //! Bodies of frames: every value of each element of one octet, names and lengths at the limits of their octets,
 //! segments of every length, buffers that are just as long and longer, what is not read, what is refused, and random
-//! bodies.
+//! bodies. They are written here; readings.rs reads them.
 
 use super::Case;
-use super::flows::beside_words;
+use super::flows::{beside_words, octets_words};
 use super::tables::FRAMES;
 use crate::random::Random;
 
 /// The types that have a body here.
-const TYPES: [u64; 6] = [120, 121, 122, 123, 124, 125];
+pub const TYPES: [u64; 6] = [120, 121, 122, 123, 124, 125];
 
 const MOST_LOF: u64 = 0x00FF_FFFF;
-const MOST_LOS: u64 = 240;
+pub const MOST_LOS: u64 = 240;
 
 /// As many octets as replay lends a buffer.
-const MOST_LENT: u64 = 9216;
+pub const MOST_LENT: u64 = 9216;
 
 // ---- A frame
 
 /// A frame that has a body: the fields of all types, of which each has some.
-struct Body {
-    kind: u64,
-    ioa: u64,
+pub struct Body {
+    pub kind: u64,
+    pub ioa: u64,
     nof: u64,
     nos: u64,
     lof: u64,
@@ -38,8 +38,8 @@ impl Body {
         Self { kind, ioa: 100, nof: 0x0C0B, nos: 13, lof: 0x0010_0F0E, pair: [7, 1], los: 5, beside }
     }
 
-    // A segment of these octets.
-    fn segment(beside: Vec<u8>) -> Self {
+    /// A segment of these octets.
+    pub fn segment(beside: Vec<u8>) -> Self {
         Self { los: beside.len() as u64 % 256, beside, ..Self::of(125) }
     }
 
@@ -72,75 +72,133 @@ impl Body {
     fn exactly(&self) -> String {
         self.call(self.len())
     }
+
+    /// Its octets, where the values are in range: reckoned here from document 02, A8, apart from the library and the
+    /// Rust.
+    pub fn octets(&self) -> Vec<u8> {
+        let [first, second] = self.pair;
+        let (nof, nos, lof) = (low(self.nof, 2), low(self.nos, 1), low(self.lof, 3));
+        match self.kind {
+            120 => [nof, lof, low(first + 128 * second, 1)].concat(),
+            121 => [nof, nos, lof, low(first + 128 * second, 1)].concat(),
+            123 => [nof, nos, low(first, 1), low(second, 1)].concat(),
+            125 => [nof, nos, low(self.los, 1), self.beside.clone()].concat(),
+            _ => [nof, nos, low(first + 16 * second, 1)].concat(),
+        }
+    }
+
+    // The call that reads it.
+    fn reading(&self) -> String {
+        reading(self.kind, self.ioa, &self.octets())
+    }
 }
 
-// So many octets that count from 1.
-fn counted(count: u64) -> Vec<u8> {
+// The low octets of a number, lowest first.
+fn low(number: u64, count: usize) -> Vec<u8> {
+    number.to_le_bytes()[..count].to_vec()
+}
+
+/// The call that reads these octets as the body of a type.
+pub fn reading(kind: u64, ioa: u64, octets: &[u8]) -> String {
+    let space = if octets.is_empty() { "" } else { " " };
+    format!("body read {kind} {ioa}{space}{}", octets_words(octets))
+}
+
+/// So many octets that count from 1.
+pub fn counted(count: u64) -> Vec<u8> {
     (1..=count).map(|octet| octet.to_le_bytes()[0]).collect()
 }
 
-fn drawn(random: &mut Random, count: u64) -> Vec<u8> {
+pub fn drawn(random: &mut Random, count: u64) -> Vec<u8> {
     (0..count).map(|_| random.octet()).collect()
 }
 
 // ---- Elements
 
+/// Bodies of one kind, under its two names: where they are written, and where they are read.
+pub struct Listed {
+    names: [&'static str; 2],
+    bodies: Vec<Body>,
+}
+
+impl Listed {
+    /// The case that writes them, each into a buffer that is just as long.
+    pub fn written(&self) -> Case {
+        Case { kind: self.names[0], calls: self.bodies.iter().map(Body::exactly).collect() }
+    }
+
+    /// The case that reads them.
+    pub fn read(&self) -> Case {
+        Case { kind: self.names[1], calls: self.bodies.iter().map(Body::reading).collect() }
+    }
+}
+
+// The two names of a kind.
+macro_rules! names {
+    ($what:literal) => {
+        [concat!("bodies: ", $what), concat!("readings: ", $what)]
+    };
+}
+
 // Each of these values of an element, in each of these types.
-fn every(take: &mut dyn FnMut(Case), name: &'static str, kinds: &[u64], values: &[u64], set: impl Fn(&mut Body, u64)) {
-    let mut case = Case::new(name);
+fn every(names: [&'static str; 2], kinds: &[u64], values: &[u64], set: impl Fn(&mut Body, u64)) -> Listed {
+    let mut bodies = Vec::new();
     for kind in kinds {
         for value in values {
             let mut body = Body::of(*kind);
             set(&mut body, *value);
-            case.call(body.exactly());
+            bodies.push(body);
         }
     }
-    take(case);
+    Listed { names, bodies }
 }
 
 /// Every value of the elements of one octet, in each type that has them.
-pub fn elements(take: &mut dyn FnMut(Case)) {
+pub fn elements() -> [Listed; 7] {
     let all: Vec<u64> = (0..256).collect();
-    every(take, "bodies: FRQ", &[120], &all, |body, n| body.pair = [n % 128, n / 128]);
-    every(take, "bodies: SRQ", &[121], &all, |body, n| body.pair = [n % 128, n / 128]);
-    every(take, "bodies: SCQ", &[122], &all, |body, n| body.pair = [n % 16, n / 16]);
-    every(take, "bodies: AFQ", &[124], &all, |body, n| body.pair = [n % 16, n / 16]);
-    every(take, "bodies: LSQ", &[123], &all, |body, n| body.pair[0] = n);
-    every(take, "bodies: CHS", &[123], &all, |body, n| body.pair[1] = n);
-    every(take, "bodies: NOS", &TYPES[1..], &all, |body, n| body.nos = n);
+    [
+        every(names!("FRQ"), &[120], &all, |body, n| body.pair = [n % 128, n / 128]),
+        every(names!("SRQ"), &[121], &all, |body, n| body.pair = [n % 128, n / 128]),
+        every(names!("SCQ"), &[122], &all, |body, n| body.pair = [n % 16, n / 16]),
+        every(names!("AFQ"), &[124], &all, |body, n| body.pair = [n % 16, n / 16]),
+        every(names!("LSQ"), &[123], &all, |body, n| body.pair[0] = n),
+        every(names!("CHS"), &[123], &all, |body, n| body.pair[1] = n),
+        every(names!("NOS"), &TYPES[1..], &all, |body, n| body.nos = n),
+    ]
 }
 
 /// Names of files, and lengths of files and sections: at the limits of their octets, and random ones.
-pub fn numbers(take: &mut dyn FnMut(Case), random: &mut Random) {
+pub fn numbers(random: &mut Random) -> [Listed; 2] {
     let mut names = vec![0, 1, 127, 128, 255, 256, 257, 32_767, 32_768, 65_279, 65_280, 65_534, 65_535];
     names.extend((0..187).map(|_| random.below(65_536)));
-    every(take, "bodies: NOF", &TYPES, &names, |body, n| body.nof = n);
     let mut lengths = vec![0, 1, 255, 256, 257, 65_280, 65_535, 65_536, 65_537];
     lengths.extend([0x00FE_FFFF, 0x00FF_0000, MOST_LOF - 1, MOST_LOF]);
     lengths.extend((0..187).map(|_| random.below(MOST_LOF + 1)));
-    every(take, "bodies: LOF", &TYPES[..2], &lengths, |body, n| body.lof = n);
+    [
+        every(names!("NOF"), &TYPES, &names, |body, n| body.nof = n),
+        every(names!("LOF"), &TYPES[..2], &lengths, |body, n| body.lof = n),
+    ]
 }
 
 /// Segments of every length, and every octet in a payload, alone and between two others.
-pub fn segments(take: &mut dyn FnMut(Case), random: &mut Random) {
-    let mut case = Case::new("bodies: LOS");
-    for los in 1..=MOST_LOS {
-        case.call(Body::segment(counted(los)).exactly());
-        case.call(Body::segment(drawn(random, los)).exactly());
-    }
-    take(case);
-    let mut case = Case::new("bodies: payload");
-    for octet in 0..=255 {
-        case.call(Body::segment(vec![octet]).exactly());
-        case.call(Body::segment(vec![1, octet, 2]).exactly());
-    }
-    take(case);
+pub fn segments(random: &mut Random) -> [Listed; 2] {
+    let lengths = (1..=MOST_LOS).flat_map(|los| [counted(los), drawn(random, los)]);
+    let lengths = lengths.map(Body::segment).collect();
+    let payloads = (0..=255).flat_map(|octet| [vec![octet], vec![1, octet, 2]]);
+    let payloads = payloads.map(Body::segment).collect();
+    [Listed { names: names!("LOS"), bodies: lengths }, Listed { names: names!("payload"), bodies: payloads }]
+}
+
+/// Every size of the object address, which is not of the body.
+pub fn addresses() -> Listed {
+    let addresses = [0, 255, 256, 65_535, 65_536, 16_777_215, 16_777_216, 4_294_967_295];
+    every(["bodies: not read", "readings: addresses"], &TYPES, &addresses, |body, n| body.ioa = n)
 }
 
 // ---- Buffers, and what is not read
 
-// A frame of each type, and segments about the limits.
-fn each() -> Vec<Body> {
+/// A frame of each type, and segments about the limits.
+pub fn each() -> Vec<Body> {
     let segments = [1, 2, 236, MOST_LOS].map(|los| Body::segment(counted(los)));
     TYPES.into_iter().map(Body::of).chain(segments).collect()
 }
@@ -157,12 +215,16 @@ pub fn buffers(take: &mut dyn FnMut(Case)) {
     take(case);
 }
 
-/// Every size of the object address, which is not of the body, and octets beside another kind than a segment.
+/// The object address, and octets beside another kind than a segment.
 pub fn not_read(take: &mut dyn FnMut(Case)) {
-    let addresses = [0, 255, 256, 65_535, 65_536, 16_777_215, 16_777_216, 4_294_967_295];
-    every(take, "bodies: not read", &TYPES, &addresses, |body, n| body.ioa = n);
-    let counts = [1, 2, 5, MOST_LOS, MOST_LOS + 1, MOST_LENT];
-    every(take, "bodies: not read", &TYPES[..5], &counts, |body, n| body.beside = counted(n));
+    take(addresses().written());
+    let mut case = Case::new("bodies: not read");
+    for kind in &TYPES[..5] {
+        for count in [1, 2, 5, MOST_LOS, MOST_LOS + 1, MOST_LENT] {
+            case.call(Body { beside: counted(count), ..Body::of(*kind) }.exactly());
+        }
+    }
+    take(case);
 }
 
 // ---- Refusals
@@ -233,14 +295,14 @@ pub fn refusals(take: &mut dyn FnMut(Case)) {
 
 // ---- Random bodies
 
-// A number of at most so many bits, a small one now and then.
-fn number(random: &mut Random, bits: u64) -> u64 {
+/// A number of at most so many bits, a small one now and then.
+pub fn number(random: &mut Random, bits: u64) -> u64 {
     let bits = if random.flag() { bits } else { 1 + random.below(bits) };
     random.below(1 << bits)
 }
 
-// Fields that are in range.
-fn body(random: &mut Random) -> Body {
+/// Fields that are in range.
+pub fn body(random: &mut Random) -> Body {
     let kind = *random.of(&TYPES);
     let pair = match kind {
         120 | 121 => [random.below(128), random.below(2)],

@@ -32,8 +32,8 @@ pub struct Flow<'a> {
     pub trouble: u64,
 }
 
-// Octets as a call has them: counted on, where they are.
-fn octets_words(octets: &[u8]) -> String {
+/// Octets as a call has them: counted on, where they are.
+pub fn octets_words(octets: &[u8]) -> String {
     if let Some(first) = octets.first()
         && octets.len() > 3
         && fill(octets.len() as u64, *first, first.wrapping_sub(1)) == octets

@@ -4,6 +4,7 @@
 mod bodies;
 mod directories;
 mod flows;
+mod readings;
 mod tables;
 mod values;
 
@@ -77,18 +78,40 @@ pub fn directory_tables(take: &mut dyn FnMut(Case)) {
     directories::call(take);
 }
 
-/// The bodies of frames, as many with every seed. Their random numbers are drawn apart from those of the other kinds,
-/// which stay as they are.
+// The bodies that are both written and read: of elements, numbers and segments.
+fn listed(random: &mut Random) -> impl Iterator<Item = bodies::Listed> {
+    let (numbers, segments) = (bodies::numbers(random), bodies::segments(random));
+    bodies::elements().into_iter().chain(numbers).chain(segments)
+}
+
+/// The bodies of frames to be written, as many with every seed. Their random numbers are drawn apart from those of the
+/// other kinds, which stay as they are.
 pub fn bodies(seed: u64, take: &mut dyn FnMut(Case)) {
     let mut random = Random::new(seed);
-    bodies::elements(take);
-    bodies::numbers(take, &mut random);
-    bodies::segments(take, &mut random);
+    listed(&mut random).for_each(|listed| take(listed.written()));
     bodies::buffers(take);
     bodies::not_read(take);
     bodies::refusals(take);
     for _ in 0..200 {
         take(bodies::random(&mut random));
+    }
+}
+
+/// The bodies to be read, as many with every seed. Their random numbers are drawn from the seed anew, so that those of
+/// the written ones stay as they are, and come again.
+pub fn readings(seed: u64, take: &mut dyn FnMut(Case)) {
+    let mut random = Random::new(seed);
+    listed(&mut random).for_each(|listed| take(listed.read()));
+    take(bodies::addresses().read());
+    take(readings::lengths());
+    take(readings::wrong_los());
+    take(readings::alike());
+    take(readings::other_types());
+    for _ in 0..40 {
+        take(readings::octets(&mut random));
+    }
+    for _ in 0..200 {
+        take(readings::random(&mut random));
     }
 }
 
