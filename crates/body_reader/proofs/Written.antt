@@ -98,18 +98,23 @@ by-type P p₀ p₁ p₂ p₃ p₄ p₅ t h = from₀ (leb t 120) refl
         let most : t ≤ 125 = leb-true _ _ (both _ _ h .1) in
         let same : t ≡ 125 = omega arith in
         rw same p₅
+
     from₄ : (b : Bool) → leb t 124 ≡ b → 123 < t → P t
     from₄ true e l = let k : t ≤ 124 = leb-true _ _ e in let same : t ≡ 124 = omega arith in rw same p₄
     from₄ false e l = from₅ (leb-false _ _ e)
+
     from₃ : (b : Bool) → leb t 123 ≡ b → 122 < t → P t
     from₃ true e l = let k : t ≤ 123 = leb-true _ _ e in let same : t ≡ 123 = omega arith in rw same p₃
     from₃ false e l = from₄ (leb t 124) refl (leb-false _ _ e)
+
     from₂ : (b : Bool) → leb t 122 ≡ b → 121 < t → P t
     from₂ true e l = let k : t ≤ 122 = leb-true _ _ e in let same : t ≡ 122 = omega arith in rw same p₂
     from₂ false e l = from₃ (leb t 123) refl (leb-false _ _ e)
+
     from₁ : (b : Bool) → leb t 121 ≡ b → 120 < t → P t
     from₁ true e l = let k : t ≤ 121 = leb-true _ _ e in let same : t ≡ 121 = omega arith in rw same p₁
     from₁ false e l = from₂ (leb t 122) refl (leb-false _ _ e)
+
     from₀ : (b : Bool) → leb t 120 ≡ b → P t
     from₀ true e =
         let least : 120 ≤ t = leb-true _ _ (both _ _ h .0) in

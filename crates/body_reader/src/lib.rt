@@ -40,40 +40,40 @@ const SEGMENT_FRONT: usize = 4;
 // ---- Elements
 
 // The flag is bit 7, counted from 0.
-fn frq_of(octet: u8) -> Frq
-    ensures { λ r. ⌜ r ≡ frqOf octet ⌝ }
+fn frq_of(frq: u8) -> Frq
+    ensures { λ r. ⌜ r ≡ frqOf frq ⌝ }
 {
     Frq {
-        value: octet % 128,
-        negative_confirm: 128 <= octet,
+        value: frq % 128,
+        negative_confirm: 128 <= frq,
     }
 }
 
-fn srq_of(octet: u8) -> Srq
-    ensures { λ r. ⌜ r ≡ srqOf octet ⌝ }
+fn srq_of(srq: u8) -> Srq
+    ensures { λ r. ⌜ r ≡ srqOf srq ⌝ }
 {
     Srq {
-        value: octet % 128,
-        not_ready: 128 <= octet,
+        value: srq % 128,
+        not_ready: 128 <= srq,
     }
 }
 
 // The action is the low four bits, the error the high four.
-fn scq_of(octet: u8) -> Scq
-    ensures { λ r. ⌜ r ≡ scqOf octet ⌝ }
+fn scq_of(scq: u8) -> Scq
+    ensures { λ r. ⌜ r ≡ scqOf scq ⌝ }
 {
     Scq {
-        action: octet % 16,
-        error: octet / 16,
+        action: scq % 16,
+        error: scq / 16,
     }
 }
 
-fn afq_of(octet: u8) -> Afq
-    ensures { λ r. ⌜ r ≡ afqOf octet ⌝ }
+fn afq_of(afq: u8) -> Afq
+    ensures { λ r. ⌜ r ≡ afqOf afq ⌝ }
 {
     Afq {
-        action: octet % 16,
-        error: octet / 16,
+        action: afq % 16,
+        error: afq / 16,
     }
 }
 
@@ -223,9 +223,9 @@ fn is_segment(body: &[u8]) -> bool
     if body.len() < SEGMENT_FRONT {
         return false;
     }
-    let los = Los { value: body[3] };
-    if los.is_in_range() {
-        return body.len() == SEGMENT_FRONT + los.value as usize;
+    let los = body[3];
+    if (Los { value: los }).is_in_range() {
+        return body.len() == SEGMENT_FRONT + los as usize;
     }
     false
 }
