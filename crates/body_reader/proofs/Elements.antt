@@ -51,6 +51,3 @@ afq-back q h = let k = halves-back (q .action) (q .error) h in simp (k .0, k .1)
 
 pub flagged-again : (x : ℕ) → x < 256 → x % 128 + flag 128 (bitOf 128 x) ≡ x
 flagged-again x h = rw (flag-bit 128 x) (omega arith)
-
-pub halves-again : (x : ℕ) → x % 16 + 16 * (x / 16) ≡ x
-halves-again x = omega arith

@@ -11,12 +11,13 @@ use borrow.Author.Tests.{leb-true, leb-false, le-leb, eq-eqb, eqb-true}
 use Rattle.laws.specs.When.{when, unless, _and_}
 use Rattle.laws.proofs.Decide.{whens}
 use Rattle.asdu.specs.Elements.{scqInRange, afqInRange, losInRange}
+use Rattle.asdu.specs.Entry.{nofOctets, lofOctets, nofAt, lofAt, flag, bitOf}
 use Rattle.asdu.specs.declared.Los.{Los}
 use Rattle.asdu.specs.declared.FtError.the-variants.{UnsupportedType, MalformedBody}
 use Rattle.asdu.proofs.Range.{both}
-use Rattle.asdu.proofs.EntryLaws.{nof-back, lof-back, low-again, high-again, lof-again, places, places-all}
+use Rattle.asdu.proofs.EntryLaws.{nof-back, lof-back, low-again, high-again, lof-again, places-all}
 use Rattle.store.specs.Store.{written}
-use Rattle.sections.specs.Sections.{noPart, partOctets}
+use Rattle.sections.specs.Sections.{partOctets}
 use Rattle.sections.specs.declared.Part.{Part}
 use Rattle.frame.specs.Frames.{typeOf, ioaOf}
 use Rattle.frame.specs.declared.Frame.{Frame}
@@ -26,9 +27,8 @@ use Rattle.frame_body.specs.declared.WriteResult.the-variants as W
 use Rattle.frame_body.proofs.Bodies.{file-ready-fits, section-ready-fits, sc-fits, ack-fits}
 use Rattle.frame_body.proofs.Answers.{told-written, when-written}
 use Rattle.body_reader.specs.Reading.{losOf, elementsLen, segmentFormed, wellFormed, frameOf, payloadIn, readAnswer, carried}
-use Rattle.body_reader.specs.declared.ReadResult.{ReadResult}
 use Rattle.body_reader.specs.declared.ReadResult.the-variants.{Ok, Err}
-use Rattle.body_reader.proofs.Elements.{frq-back, srq-back, scq-back, afq-back, flagged-again, halves-again}
+use Rattle.body_reader.proofs.Elements.{frq-back, srq-back, scq-back, afq-back, flagged-again}
 use Rattle.body_reader.proofs.Bodies.{segment-long}
 
 -- ---- frame, body, frame
@@ -137,68 +137,54 @@ module _ (ioa : ℕ) (o : List ℕ) (small : (i : ℕ) → getD o i 0 < 256) whe
       × (bodyInRange (frameOf t ioa o) (partOctets (payloadIn t o) o) ≡ true)
       × (bodyOf (frameOf t ioa o) (partOctets (payloadIn t o) o) ≡ o)
 
-  lof-most : (i : ℕ) → leb (at i + 256 * at (i + 1) + 65536 * at (i + 2)) 0xFFFFFF ≡ true
-  lof-most i =
+  -- the octets of a name in front of others; of a length, and of a value with its flag behind it; of two halves
+  name-again : (rest : List ℕ) → nofOctets (nofAt o 0) ++ rest ≡ at 0 ∷ at 1 ∷ rest
+  name-again rest = simp (low-again (at 0) (at 1) (small 0), high-again (at 0) (at 1) (small 0))
+
+  length-again : (i : ℕ) (q : ℕ) → lofOctets (lofAt o i) ++ (at q % 128 + flag 128 (bitOf 128 (at q))) ∷ [] ≡ at i ∷ at (i + 1) ∷ at (i + 2) ∷ at q ∷ []
+  length-again i q =
+      let lof = lof-again (at i) (at (i + 1)) (at (i + 2)) (small i) (small (i + 1)) in
+      simp (lof .0, lof .1, lof .2, flagged-again (at q) (small q))
+
+  halves-again : length o ≡ 4 → nofOctets (nofAt o 0) ++ at 2 ∷ (at 3 % 16 + 16 * (at 3 / 16)) ∷ [] ≡ o
+  halves-again n =
+      let octet : at 3 % 16 + 16 * (at 3 / 16) ≡ at 3 = omega arith in
+      name-again _ ∙ rw octet (places-all 4 0 o (omega arith))
+
+  -- and their ranges
+  length-range : (i q : ℕ) → (leb (lofAt o i .value) 0xFFFFFF and leb (at q % 128) 127) ≡ true
+  length-range i q =
       let a = small i in
       let b = small (i + 1) in
-      let d = small (i + 2) in
-      le-leb (at i + 256 * at (i + 1) + 65536 * at (i + 2)) 0xFFFFFF (omega arith)
+      let c = small (i + 2) in
+      simp (whens, le-leb (at i + 256 * at (i + 1) + 65536 * at (i + 2)) 0xFFFFFF (omega arith)) (le-leb (at q % 128) 127 (omega arith))
 
-  flagged-most : (i : ℕ) → leb (at i % 128) 127 ≡ true
-  flagged-most i = le-leb (at i % 128) 127 (omega arith)
-
-  halves-most : (i : ℕ) → (leb (at i % 16) 15 ≡ true) × (leb (at i / 16) 15 ≡ true)
-  halves-most i = let a = small i in (le-leb (at i % 16) 15 (omega arith), le-leb (at i / 16) 15 (omega arith))
+  halves-range : (leb (at 3 % 16) 15 and leb (at 3 / 16) 15) ≡ true
+  halves-range = let a = small 3 in simp (whens, le-leb (at 3 % 16) 15 (omega arith)) (le-leb (at 3 / 16) 15 (omega arith))
 
   again-120 : Again 120
   unfolding wellFormed elementsLen frameOf payloadIn when
   again-120 h =
       let n : length o ≡ 6 = eqb-true _ _ h in
-      let lof = lof-again (at 2) (at 3) (at 4) (small 2) (small 3) in (
-        refl,
-        refl,
-        simp (lof-most 2, flagged-most 5),
-        simp (low-again (at 0) (at 1) (small 0), high-again (at 0) (at 1) (small 0), lof .0, lof .1, lof .2, flagged-again (at 5) (small 5)) (places-all 6 0 o (omega arith)),
-      )
+      (refl, refl, length-range 2 5, name-again _ ∙ ap (λ (r : List ℕ). at 0 ∷ at 1 ∷ r) (length-again 2 5) ∙ places-all 6 0 o (omega arith))
 
   again-121 : Again 121
   unfolding wellFormed elementsLen frameOf payloadIn when
   again-121 h =
       let n : length o ≡ 7 = eqb-true _ _ h in
-      let lof = lof-again (at 3) (at 4) (at 5) (small 3) (small 4) in (
-        refl,
-        refl,
-        simp (lof-most 3, flagged-most 6),
-        simp (low-again (at 0) (at 1) (small 0), high-again (at 0) (at 1) (small 0), lof .0, lof .1, lof .2, flagged-again (at 6) (small 6)) (places-all 7 0 o (omega arith)),
-      )
+      (refl, refl, length-range 3 6, name-again _ ∙ ap (λ (r : List ℕ). at 0 ∷ at 1 ∷ at 2 ∷ r) (length-again 3 6) ∙ places-all 7 0 o (omega arith))
 
   again-122 : Again 122
   unfolding wellFormed elementsLen frameOf payloadIn when scqInRange
-  again-122 h =
-      let n : length o ≡ 4 = eqb-true _ _ h in
-      let half = halves-most 3 in (
-        refl,
-        refl,
-        simp (half .0, half .1),
-        simp (low-again (at 0) (at 1) (small 0), high-again (at 0) (at 1) (small 0), halves-again (at 3)) (places-all 4 0 o (omega arith)),
-      )
+  again-122 h = (refl, refl, halves-range, halves-again (eqb-true _ _ h))
 
   again-123 : Again 123
   unfolding wellFormed elementsLen frameOf payloadIn when
-  again-123 h =
-      let n : length o ≡ 5 = eqb-true _ _ h in
-      (refl, refl, refl, simp (low-again (at 0) (at 1) (small 0), high-again (at 0) (at 1) (small 0)) (places-all 5 0 o (omega arith)))
+  again-123 h = let n : length o ≡ 5 = eqb-true _ _ h in (refl, refl, refl, name-again _ ∙ places-all 5 0 o (omega arith))
 
   again-124 : Again 124
   unfolding wellFormed elementsLen frameOf payloadIn when afqInRange
-  again-124 h =
-      let n : length o ≡ 4 = eqb-true _ _ h in
-      let half = halves-most 3 in (
-        refl,
-        refl,
-        simp (half .0, half .1),
-        simp (low-again (at 0) (at 1) (small 0), high-again (at 0) (at 1) (small 0), halves-again (at 3)) (places-all 4 0 o (omega arith)),
-      )
+  again-124 h = (refl, refl, halves-range, halves-again (eqb-true _ _ h))
 
   -- of a segment that is well formed: the payload is all that stands behind LOS, and its length is LOS
   module _ (h : segmentFormed o ≡ true) where
@@ -219,12 +205,7 @@ module _ (ioa : ℕ) (o : List ℕ) (small : (i : ℕ) → getD o i 0 < 256) whe
 
   again-125 : Again 125
   unfolding wellFormed frameOf payloadIn when
-  again-125 h = (
-    refl,
-    refl,
-    segment-range h,
-    simp (low-again (at 0) (at 1) (small 0), high-again (at 0) (at 1) (small 0), payload-rest h) (front-places h),
-  )
+  again-125 h = (refl, refl, segment-range h, name-again _ ∙ rw (payload-rest h) (front-places h))
 
 -- what is read is of the type and object address that were handed in, is in range, and its body is the one that was read
 pub read-body : (t ioa : ℕ) (o : List ℕ) (f : Frame) (q : Part) → ((i : ℕ) → getD o i 0 < 256) → readAnswer t ioa o ≡ Ok f q

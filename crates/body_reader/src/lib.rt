@@ -19,12 +19,10 @@ use frame::Frame;
 use frame_body::is_body_type;
 use sections::Part;
 ghost use mathlib.Core.Path.{_≡_};
-ghost use mathlib.Core.Bool.{true};
 ghost use Prim.Native.Nat.{_+_, _≤_};
 ghost use lib.ListN.{length, getD};
 ghost use Rattle.frame.specs.declared.Frame.the-variants as F;
 ghost use Rattle.asdu.specs.Entry.{nofAt, lofAt};
-ghost use Rattle.frame_body.specs.Body.{bodyType};
 ghost use Rattle.body_reader.specs.Elements.{frqOf, srqOf, scqOf, afqOf};
 ghost use Rattle.body_reader.specs.Reading.{nosAt, lsqOf, chsOf, losOf, elementsLen, segmentFormed, wellFormed, frameOf, payloadIn, readAnswer};
 
