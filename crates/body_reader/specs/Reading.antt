@@ -23,12 +23,12 @@ use Rattle.body_reader.specs.Elements.{frqOf, srqOf, scqOf, afqOf}
 use Rattle.body_reader.specs.declared.ReadResult.{ReadResult}
 use Rattle.body_reader.specs.declared.ReadResult.the-variants.{Ok, Err}
 
--- ---- elements by their place, counted from 0
+-- ---- elements by their places, counted from 0
 
-abbrev pub nosAt : List ℕ → ℕ → Nos
-nosAt o i = record { value = getD o i 0 }
+-- NOS behind NOF; behind both LSQ and CHS of a close, and LOS of a segment
+abbrev pub nosOf : List ℕ → Nos
+nosOf o = record { value = getD o 2 0 }
 
--- LSQ and CHS of a close, LOS of a segment: behind NOF and NOS
 abbrev pub lsqOf : List ℕ → Lsq
 lsqOf o = record { value = getD o 3 0 }
 
@@ -40,7 +40,7 @@ losOf o = record { value = getD o 3 0 }
 
 -- ---- a body of each type
 
--- how many octets the elements have, of a segment those in front of its payload
+-- how many octets the elements have; of a segment, those in front of its payload
 unfoldable pub elementsLen : ℕ → ℕ
 elementsLen t = when (eqb t «F_FR_NA_1») 6 (when (eqb t «F_SR_NA_1») 7 (when (eqb t «F_LS_NA_1») 5 4))
 
@@ -56,11 +56,11 @@ wellFormed t o = when (eqb t «F_SG_NA_1») (segmentFormed o) (eqb (length o) (e
 unfoldable pub frameOf : ℕ → ℕ → List ℕ → Frame
 frameOf t ioa o =
     when (eqb t «F_FR_NA_1») (FileReady ioa (nofAt o 0) (lofAt o 2) (frqOf (getD o 5 0)))
-    (when (eqb t «F_SR_NA_1») (SectionReady ioa (nofAt o 0) (nosAt o 2) (lofAt o 3) (srqOf (getD o 6 0)))
-    (when (eqb t «F_SC_NA_1») (Sc ioa (nofAt o 0) (nosAt o 2) (scqOf (getD o 3 0)))
-    (when (eqb t «F_LS_NA_1») (LastSection ioa (nofAt o 0) (nosAt o 2) (lsqOf o) (chsOf o))
-    (when (eqb t «F_AF_NA_1») (Ack ioa (nofAt o 0) (nosAt o 2) (afqOf (getD o 3 0)))
-    (Segment ioa (nofAt o 0) (nosAt o 2) (losOf o))))))
+    (when (eqb t «F_SR_NA_1») (SectionReady ioa (nofAt o 0) (nosOf o) (lofAt o 3) (srqOf (getD o 6 0)))
+    (when (eqb t «F_SC_NA_1») (Sc ioa (nofAt o 0) (nosOf o) (scqOf (getD o 3 0)))
+    (when (eqb t «F_LS_NA_1») (LastSection ioa (nofAt o 0) (nosOf o) (lsqOf o) (chsOf o))
+    (when (eqb t «F_AF_NA_1») (Ack ioa (nofAt o 0) (nosOf o) (afqOf (getD o 3 0)))
+    (Segment ioa (nofAt o 0) (nosOf o) (losOf o))))))
 
 -- the part of the body that is the payload: a segment's LOS octets behind LOS; of another type none
 unfoldable pub payloadIn : ℕ → List ℕ → Part

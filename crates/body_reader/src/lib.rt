@@ -1,6 +1,7 @@
 // The bodies of the frames of types 120 to 125, read (document 02, A9): what the octets behind an object address say,
 // laid out as IEC 60870-5-101, 7.3.6.1 to 7.3.6.6, has them. No octet is copied: a segment's payload is named as the part
-// of the body that it occupies. Every bit of these octets has a meaning, so only a body's length can be wrong.
+// of the body that it occupies. Every bit of these octets has a meaning, so nothing can be wrong but a length: the body's,
+// or the one that LOS says.
 use asdu::Afq;
 use asdu::Chs;
 use asdu::Frq;
@@ -24,7 +25,7 @@ ghost use lib.ListN.{length, getD};
 ghost use Rattle.frame.specs.declared.Frame.the-variants as F;
 ghost use Rattle.asdu.specs.Entry.{nofAt, lofAt};
 ghost use Rattle.body_reader.specs.Elements.{frqOf, srqOf, scqOf, afqOf};
-ghost use Rattle.body_reader.specs.Reading.{nosAt, lsqOf, chsOf, losOf, elementsLen, segmentFormed, wellFormed, frameOf, payloadIn, readAnswer};
+ghost use Rattle.body_reader.specs.Reading.{nosOf, lsqOf, chsOf, losOf, elementsLen, segmentFormed, wellFormed, frameOf, payloadIn, readAnswer};
 
 // What reading a body answers: its frame, and where its payload stands; or why there is none.
 pub enum ReadResult {
@@ -37,7 +38,7 @@ const SEGMENT_FRONT: usize = 4;
 
 // ---- Elements
 
-// The flag is bit 7, counted from 0.
+// FRQ: the flag is bit 7, counted from 0.
 fn frq_of(frq: u8) -> Frq
     ensures { λ r. ⌜ r ≡ frqOf frq ⌝ }
 {
@@ -47,6 +48,7 @@ fn frq_of(frq: u8) -> Frq
     }
 }
 
+// SRQ: the same.
 fn srq_of(srq: u8) -> Srq
     ensures { λ r. ⌜ r ≡ srqOf srq ⌝ }
 {
@@ -56,7 +58,7 @@ fn srq_of(srq: u8) -> Srq
     }
 }
 
-// The action is the low four bits, the error the high four.
+// SCQ: the action is the low four bits, the error the high four.
 fn scq_of(scq: u8) -> Scq
     ensures { λ r. ⌜ r ≡ scqOf scq ⌝ }
 {
@@ -66,6 +68,7 @@ fn scq_of(scq: u8) -> Scq
     }
 }
 
+// AFQ: the same.
 fn afq_of(afq: u8) -> Afq
     ensures { λ r. ⌜ r ≡ afqOf afq ⌝ }
 {
@@ -98,7 +101,7 @@ fn lof_at(body: &[u8], place: usize) -> Lof
 // The name of section, behind the name of file.
 fn nos_of(body: &[u8]) -> Nos
     requires { ⌜ 3 ≤ length (now body) ⌝ }
-    ensures { λ r. ⌜ r ≡ nosAt (now (body .entry)) 2 ⌝ }
+    ensures { λ r. ⌜ r ≡ nosOf (now (body .entry)) ⌝ }
 {
     Nos { value: body[2] }
 }
@@ -121,7 +124,7 @@ fn file_ready(ioa: u32, body: &[u8]) -> Frame
 // 121: NOF, NOS, LOF, SRQ.
 fn section_ready(ioa: u32, body: &[u8]) -> Frame
     requires { ⌜ 7 ≤ length (now body) ⌝ }
-    ensures { λ r. ⌜ r ≡ F.SectionReady ioa (nofAt (now (body .entry)) 0) (nosAt (now (body .entry)) 2) (lofAt (now (body .entry)) 3) (srqOf (getD (now (body .entry)) 6 0)) ⌝ }
+    ensures { λ r. ⌜ r ≡ F.SectionReady ioa (nofAt (now (body .entry)) 0) (nosOf (now (body .entry))) (lofAt (now (body .entry)) 3) (srqOf (getD (now (body .entry)) 6 0)) ⌝ }
 {
     Frame::SectionReady {
         ioa,
@@ -135,7 +138,7 @@ fn section_ready(ioa: u32, body: &[u8]) -> Frame
 // 122: NOF, NOS, SCQ.
 fn sc(ioa: u32, body: &[u8]) -> Frame
     requires { ⌜ 4 ≤ length (now body) ⌝ }
-    ensures { λ r. ⌜ r ≡ F.Sc ioa (nofAt (now (body .entry)) 0) (nosAt (now (body .entry)) 2) (scqOf (getD (now (body .entry)) 3 0)) ⌝ }
+    ensures { λ r. ⌜ r ≡ F.Sc ioa (nofAt (now (body .entry)) 0) (nosOf (now (body .entry))) (scqOf (getD (now (body .entry)) 3 0)) ⌝ }
 {
     Frame::Sc {
         ioa,
@@ -148,7 +151,7 @@ fn sc(ioa: u32, body: &[u8]) -> Frame
 // 123: NOF, NOS, LSQ, CHS.
 fn last_section(ioa: u32, body: &[u8]) -> Frame
     requires { ⌜ 5 ≤ length (now body) ⌝ }
-    ensures { λ r. ⌜ r ≡ F.LastSection ioa (nofAt (now (body .entry)) 0) (nosAt (now (body .entry)) 2) (lsqOf (now (body .entry))) (chsOf (now (body .entry))) ⌝ }
+    ensures { λ r. ⌜ r ≡ F.LastSection ioa (nofAt (now (body .entry)) 0) (nosOf (now (body .entry))) (lsqOf (now (body .entry))) (chsOf (now (body .entry))) ⌝ }
 {
     Frame::LastSection {
         ioa,
@@ -162,7 +165,7 @@ fn last_section(ioa: u32, body: &[u8]) -> Frame
 // 124: NOF, NOS, AFQ.
 fn ack(ioa: u32, body: &[u8]) -> Frame
     requires { ⌜ 4 ≤ length (now body) ⌝ }
-    ensures { λ r. ⌜ r ≡ F.Ack ioa (nofAt (now (body .entry)) 0) (nosAt (now (body .entry)) 2) (afqOf (getD (now (body .entry)) 3 0)) ⌝ }
+    ensures { λ r. ⌜ r ≡ F.Ack ioa (nofAt (now (body .entry)) 0) (nosOf (now (body .entry))) (afqOf (getD (now (body .entry)) 3 0)) ⌝ }
 {
     Frame::Ack {
         ioa,
@@ -175,7 +178,7 @@ fn ack(ioa: u32, body: &[u8]) -> Frame
 // 125: NOF, NOS, LOS; the payload stays in the body.
 fn segment(ioa: u32, body: &[u8]) -> Frame
     requires { ⌜ 4 ≤ length (now body) ⌝ }
-    ensures { λ r. ⌜ r ≡ F.Segment ioa (nofAt (now (body .entry)) 0) (nosAt (now (body .entry)) 2) (losOf (now (body .entry))) ⌝ }
+    ensures { λ r. ⌜ r ≡ F.Segment ioa (nofAt (now (body .entry)) 0) (nosOf (now (body .entry))) (losOf (now (body .entry))) ⌝ }
 {
     Frame::Segment {
         ioa,
@@ -202,7 +205,7 @@ fn frame_of(type_id: u8, ioa: u32, body: &[u8]) -> Frame
 
 // ---- Reading
 
-// How many octets the elements have, of a segment those in front of its payload.
+// How many octets the elements have; of a segment, those in front of its payload.
 fn elements_len(type_id: u8) -> usize
     ensures { λ r. ⌜ r ≡ elementsLen «type_id» ⌝ }
 {
