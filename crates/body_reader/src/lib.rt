@@ -1,7 +1,7 @@
 // The bodies of the frames of types 120 to 125, read (document 02, A9): what the octets behind an object address say,
-// laid out as IEC 60870-5-101, 7.3.6.1 to 7.3.6.6, has them. No octet is copied: a segment's payload is named as the part
-// of the body that it occupies. Every bit of these octets has a meaning, so nothing can be wrong but a length: the body's,
-// or the one that LOS says.
+// laid out as IEC 60870-5-101, 7.3.6.1 to 7.3.6.6, has them. No octet is copied: a segment's payload is named as the
+// part of the body that it occupies. Every bit of these octets has a meaning, so nothing can be wrong but a length: the
+// body's, or the one that LOS says.
 use asdu::Afq;
 use asdu::Chs;
 use asdu::Frq;
