@@ -1,11 +1,11 @@
 -- How long a body is that is well formed.
-use Prim.Native.Nat.{ℕ, _+_, _≤_, _<_}
+use Prim.Native.Nat.{ℕ, _+_, _≤_}
 use mathlib.Core.Bool.{Bool, true, false}
 use mathlib.Core.Path.{_≡_, refl}
 use mathlib.Core.List.{List}
 use native.Mathlib.Omega.{arith}
 use lib.Dec.{eqb}
-use lib.ListN.{length, getD, List·getD-eq-default}
+use lib.ListN.{length, getD}
 use borrow.Author.Tests.{eqb-true}
 use Rattle.laws.specs.When.{when}
 use Rattle.laws.proofs.Decide.{whens}
@@ -13,15 +13,10 @@ use Rattle.asdu.specs.Elements.{losInRange}
 use Rattle.asdu.proofs.Range.{both}
 use Rattle.body_reader.specs.Reading.{losOf, elementsLen, segmentFormed, wellFormed}
 
--- an octet that is not there is no LOS
-pub short-segment : (o : List ℕ) → length o < 4 → segmentFormed o ≡ false
-unfolding segmentFormed losInRange when
-short-segment o h = let none : getD o 3 0 ≡ 0 = List·getD-eq-default o 0 (omega arith) in rw none
-
--- what the segment's test says in numbers
+-- what the segment's tests say in numbers
 pub segment-long : (o : List ℕ) → segmentFormed o ≡ true → (losInRange (losOf o) ≡ true) × (length o ≡ 4 + getD o 3 0)
 unfolding segmentFormed
-segment-long o h = let k = both _ _ h in (k .0, eqb-true _ _ (k .1))
+segment-long o h = let k = both _ _ (both _ _ h .1) in (k .0, eqb-true _ _ (k .1))
 
 pub formed-long : (t : ℕ) (o : List ℕ) → wellFormed t o ≡ true → elementsLen t ≤ length o
 unfolding wellFormed elementsLen when

@@ -45,7 +45,8 @@ unfolding segmentFormed
 formed-segment los p a b c h =
     let k = both _ _ h in
     let same : los .value ≡ length p = eqb-true _ _ (k .1) in
-    (simp (whens, k .0) (eq-eqb (length (a ∷ b ∷ c ∷ los .value ∷ p)) (4 + los .value) (omega arith)), same)
+    let long = length (a ∷ b ∷ c ∷ los .value ∷ p) in
+    (simp (whens, le-leb 4 long (omega arith), k .0) (eq-eqb long (4 + los .value) (omega arith)), same)
 
 -- a body in range is read as its frame, and its payload is found in it
 pub body-read : (f : Frame) (p : List ℕ) → bodyType (typeOf f) ≡ true → bodyInRange f p ≡ true → Reads f p (bodyOf f p)

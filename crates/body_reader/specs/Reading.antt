@@ -2,7 +2,7 @@
 use Prim.Native.Nat.{ℕ, _+_}
 use mathlib.Core.Bool.{Bool}
 use mathlib.Core.List.{List, []}
-use lib.Dec.{eqb}
+use lib.Dec.{eqb, leb}
 use lib.ListN.{length, getD}
 use Rattle.laws.specs.When.{when, unless, _and_}
 use Rattle.asdu.specs.Codes.{«F_FR_NA_1», «F_SR_NA_1», «F_SC_NA_1», «F_LS_NA_1», «F_AF_NA_1», «F_SG_NA_1»}
@@ -44,9 +44,9 @@ losOf o = record { value = getD o 3 0 }
 unfoldable pub elementsLen : ℕ → ℕ
 elementsLen t = when (eqb t «F_FR_NA_1») 6 (when (eqb t «F_SR_NA_1») 7 (when (eqb t «F_LS_NA_1») 5 4))
 
--- a segment's LOS is 1 to 240, and as many octets follow it
+-- a segment has a LOS, which is 1 to 240, and as many octets follow it
 unfoldable pub segmentFormed : List ℕ → Bool
-segmentFormed o = losInRange (losOf o) and eqb (length o) (4 + losOf o .value)
+segmentFormed o = leb 4 (length o) and losInRange (losOf o) and eqb (length o) (4 + losOf o .value)
 
 -- nothing follows the elements of another type
 unfoldable pub wellFormed : ℕ → List ℕ → Bool

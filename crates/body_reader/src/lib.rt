@@ -217,7 +217,7 @@ fn elements_len(type_id: u8) -> usize
     }
 }
 
-// Whether LOS is 1 to 240, and as many octets follow it.
+// Whether there is a LOS, 1 to 240, and as many octets follow it.
 fn is_segment(body: &[u8]) -> bool
     ensures { λ r. ⌜ r ≡ segmentFormed (now (body .entry)) ⌝ }
 {
