@@ -89,40 +89,26 @@ passed true true f g p q e = (refl, refl, cc, cc)
 passed true false f g p q e = let z : _≡_ {A = ℕ} 0 1 = cc in absurd (omega arith)
 passed false b f g p q e = let z : _≡_ {A = ℕ} 0 1 = cc in absurd (omega arith)
 
+-- what holds of k, and of every number above it, holds of every number from k on
+from : (P : ℕ → Type 0) (t k : ℕ) → P k → k ≤ t → (k < t → P t) → P t
+from P t k p l above = go (leb t k) refl
+  where
+    go : (b : Bool) → leb t k ≡ b → P t
+    go true e = let m : t ≤ k = leb-true _ _ e in let same : t ≡ k = omega arith in rw same p
+    go false e = above (leb-false _ _ e)
+
 -- for each type that has a body here
 by-type : (P : ℕ → Type 0) → P 120 → P 121 → P 122 → P 123 → P 124 → P 125 → (t : ℕ) → bodyType t ≡ true → P t
 unfolding bodyType
-by-type P p₀ p₁ p₂ p₃ p₄ p₅ t h = from₀ (leb t 120) refl
-  where
-    from₅ : 124 < t → P t
-    from₅ l =
-        let most : t ≤ 125 = leb-true _ _ (both _ _ h .1) in
-        let same : t ≡ 125 = omega arith in
-        rw same p₅
-
-    from₄ : (b : Bool) → leb t 124 ≡ b → 123 < t → P t
-    from₄ true e l = let k : t ≤ 124 = leb-true _ _ e in let same : t ≡ 124 = omega arith in rw same p₄
-    from₄ false e l = from₅ (leb-false _ _ e)
-
-    from₃ : (b : Bool) → leb t 123 ≡ b → 122 < t → P t
-    from₃ true e l = let k : t ≤ 123 = leb-true _ _ e in let same : t ≡ 123 = omega arith in rw same p₃
-    from₃ false e l = from₄ (leb t 124) refl (leb-false _ _ e)
-
-    from₂ : (b : Bool) → leb t 122 ≡ b → 121 < t → P t
-    from₂ true e l = let k : t ≤ 122 = leb-true _ _ e in let same : t ≡ 122 = omega arith in rw same p₂
-    from₂ false e l = from₃ (leb t 123) refl (leb-false _ _ e)
-
-    from₁ : (b : Bool) → leb t 121 ≡ b → 120 < t → P t
-    from₁ true e l = let k : t ≤ 121 = leb-true _ _ e in let same : t ≡ 121 = omega arith in rw same p₁
-    from₁ false e l = from₂ (leb t 122) refl (leb-false _ _ e)
-
-    from₀ : (b : Bool) → leb t 120 ≡ b → P t
-    from₀ true e =
-        let least : 120 ≤ t = leb-true _ _ (both _ _ h .0) in
-        let k : t ≤ 120 = leb-true _ _ e in
-        let same : t ≡ 120 = omega arith in
-        rw same p₀
-    from₀ false e = from₁ (leb t 121) refl (leb-false _ _ e)
+by-type P p₀ p₁ p₂ p₃ p₄ p₅ t h =
+    let most : t ≤ 125 = leb-true _ _ (both _ _ h .1) in
+    from P t 120 p₀ (leb-true _ _ (both _ _ h .0))
+    (λ l₀. from P t 121 p₁ l₀
+    (λ l₁. from P t 122 p₂ l₁
+    (λ l₂. from P t 123 p₃ l₂
+    (λ l₃. from P t 124 p₄ l₃
+    (λ l₄. from P t 125 p₅ l₄
+    (λ l₅. absurd (omega arith)))))))
 
 module _ (ioa : ℕ) (o : List ℕ) (small : (i : ℕ) → getD o i 0 < 256) where
   -- the octet at a place
