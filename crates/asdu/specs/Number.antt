@@ -1,4 +1,4 @@
--- The number of each refusal. Document 01: 1 to 11 because of the input, 21 to 26 because of the state. Document 02, A3: 27 and 28, of a directory page to print; A8: 29 and 30, of a frame's body that is written; A9: 31, of one that is read.
+-- The number of each refusal. Document 01: 1 to 11 because of the input, 21 to 26 because of the state. Document 02, A3: 27 and 28, of a directory page to print; A8: 29 and 30, of a frame's body that is written; A9: 31, of one that is read; A14: 33, of a window over the last transfers.
 use Prim.Native.Nat.{ℕ}
 use Rattle.asdu.specs.declared.FtError.{FtError}
 use Rattle.asdu.specs.declared.FtError.the-variants as E
@@ -26,3 +26,4 @@ numberOf E.PageTooShort = 28
 numberOf E.UnsupportedType = 29
 numberOf E.BufferTooShort = 30
 numberOf E.MalformedBody = 31
+numberOf E.InvalidWindow = 33

@@ -32,6 +32,7 @@ impl FtError {
             FtError::UnsupportedType => 29,
             FtError::BufferTooShort => 30,
             FtError::MalformedBody => 31,
+            FtError::InvalidWindow => 33,
         }
     }
 }

@@ -179,6 +179,8 @@ pub enum FtError {
     UnsupportedType,
     BufferTooShort,
     MalformedBody,
+    // Of a window over the last transfers (document 02, A14).
+    InvalidWindow,
 }
 
 // The widths of a system: octets of the cause, of the common address and of an object address.

@@ -1,0 +1,6 @@
+pub mod Latest
+pub mod Ring
+pub mod Right
+pub mod Sums
+pub mod History
+pub mod Ranges

@@ -1,0 +1,4 @@
+pub mod Window
+pub mod Totals
+pub mod Ranges
+pub mod History
