@@ -31,3 +31,13 @@ pub fn one_more(count: u32) -> u32
     }
     count + 1
 }
+
+// The number in 32 bits, or their largest value where it has more.
+pub fn in_32_bits(n: usize) -> u32
+    ensures { λ r. ⌜ r ≡ min 4294967295 n ⌝ }
+{
+    if n < MAX as usize {
+        return n as u32;
+    }
+    MAX
+}

@@ -116,10 +116,11 @@ fn place_after(width: u8, place: u8) -> u8
     requires { ⌜ place < width ⌝ }
     ensures { λ r. ⌜ r ≡ (place + 1) % width ⌝ }
 {
-    if place < width - 1 {
-        return place + 1;
+    let last = width - 1;
+    if place == last {
+        return 0;
     }
-    0
+    place + 1
 }
 
 // The place of a record by its age, where the next one goes to this place: the newest, of age 0, is before

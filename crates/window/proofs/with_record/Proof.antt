@@ -1,5 +1,7 @@
 use borrow.Author.Needs.{needs}
+use mathlib.Core.Path.{_≡_}
 use native.Mathlib.Omega.{arith}
+use Rattle.window.specs.Totals.{wholeCount}
 use Rattle.window.proofs.Sums.{whole-most}
 use Rattle.window.proofs.with_record.Statement.{statement}
 use Rattle.window.proofs.with_record.Tie as tie
@@ -16,8 +18,12 @@ with-record-spec =
     (λ c. search needs)
     (λ c κs. search needs)
     (λ c.
-    let one = whole-most (c .before .before .before .before .before .before .before .before .args .ended .whole) in
-    record { fits = omega (arith, c .before .whole-count .ensures) })
+    let whole = c .before .before .before .before .before .before .before .before .args .ended .whole in
+    let counted : c .before .whole-count .result ≡ wholeCount whole = c .before .whole-count .ensures in
+    let one = whole-most whole in
+    record { fits = omega arith })
     (λ c.
-    let one = whole-most (c .before .before .before .before .before .before .before .before .args .ended .whole) in
-    (simp (c .before .whole-count .ensures), (omega arith, (omega arith, (omega arith, omega (arith, c .before .whole-count .ensures)))))))
+    let whole = c .before .before .before .before .before .before .before .before .args .ended .whole in
+    let counted : c .before .whole-count .result ≡ wholeCount whole = c .before .whole-count .ensures in
+    let one = whole-most whole in
+    (simp counted, (omega arith, (omega arith, (omega arith, omega arith))))))
