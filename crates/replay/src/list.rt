@@ -12,6 +12,7 @@ use octet_calls::loads;
 use octet_calls::pages;
 use station_calls::kept;
 use station_calls::stations;
+use window_calls::kept::Places;
 use words::Numbers;
 use words::Octets;
 use words::at;
@@ -75,6 +76,7 @@ fn is_of_directory(
 fn is_of_kept(
     line: &[u8],
     regs: &mut Numbers,
+    places: &mut Places,
     file: &[u8],
     damage: &[u8],
     store: &mut Octets,
@@ -88,7 +90,10 @@ fn is_of_kept(
     if is_of_directory(line, regs, octets_of_file, store, octets) {
         return true;
     }
-    party_calls::call(line, regs, octets_of_file, sections, store, octets)
+    if party_calls::call(line, regs, octets_of_file, sections, store, octets) {
+        return true;
+    }
+    window_calls::call(line, regs, places, octets_of_file, sections, store, octets)
 }
 
 // Calls of the buffers.
@@ -115,6 +120,7 @@ fn is_of_buffers(
 fn is_call(
     line: &[u8],
     regs: &mut Numbers,
+    places: &mut Places,
     file: &mut Octets,
     damage: &mut Octets,
     store: &mut Octets,
@@ -126,7 +132,7 @@ fn is_call(
     if is_of_buffers(line, regs, file, damage, store) {
         return true;
     }
-    is_of_kept(line, regs, file, damage, store, octets)
+    is_of_kept(line, regs, places, file, damage, store, octets)
 }
 
 // ---- Lines
@@ -135,6 +141,7 @@ fn is_call(
 fn is_read(
     line: &[u8],
     regs: &mut Numbers,
+    places: &mut Places,
     file: &mut Octets,
     damage: &mut Octets,
     store: &mut Octets,
@@ -144,7 +151,7 @@ fn is_read(
         write::text(line);
         return true;
     }
-    if is_call(line, regs, file, damage, store, octets) {
+    if is_call(line, regs, places, file, damage, store, octets) {
         return true;
     }
     input::unread(line, at(regs, input::LINES, 0));
@@ -157,6 +164,7 @@ fn is_read(
 pub fn is_played(fd: i32) -> bool {
     let mut buffer = io::large_buffer();
     let mut regs = [0u64; 128];
+    let mut places = [0u64; 259];
     let mut file = [0u8; 9216];
     let mut damage = [0u8; 9216];
     let mut store = [0u8; 9216];
@@ -172,6 +180,7 @@ pub fn is_played(fd: i32) -> bool {
         let is_whole = is_read(
             line,
             &mut regs,
+            &mut places,
             &mut file,
             &mut damage,
             &mut store,

@@ -4,3 +4,5 @@ pub mod Right
 pub mod Sums
 pub mod History
 pub mod Ranges
+pub mod Answers
+pub mod Worked
