@@ -55,11 +55,11 @@ def differing(program, texts, answer):
     refused = wrong = 0
     for text in texts:
         right = answer(text)
-        refused += right.startswith(b"refused ")
+        refused += right.count(b"refused ")
         if printed(program, text) != right:
             wrong += 1
             print("differs: %r" % text[:60])
-    print("%d texts, %d of them refused: %d differ" % (len(texts), refused, wrong))
+    print("%d texts, %d refusals: %d differ" % (len(texts), refused, wrong))
     return wrong
 
 
