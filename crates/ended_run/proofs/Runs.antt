@@ -1,16 +1,13 @@
 -- What a window is fed from the run of a transfer script: its record is known beforehand.
 use Prim.Native.Nat.{ℕ, _≤_, _<_, min}
 use mathlib.Core.Bool.{true, false}
-use mathlib.Core.Path.{_≡_, ap, _∙_}
+use mathlib.Core.Path.{_≡_}
 use mathlib.Core.List.{List}
 use native.Mathlib.Omega.{arith}
 use lib.ListN.{length}
 use borrow.Author.Tests.{leb-true}
-use Rattle.window.specs.declared.Ended.{Ended}
 use Rattle.twoparty.specs.declared.Settings.{Settings}
-use Rattle.run.specs.Loop.{Ran}
 use Rattle.run.specs.Run.{twoParty, scriptFrames}
-use Rattle.run.specs.declared.RunResult.{RunResult}
 use Rattle.run.proofs.Running.{Accepted}
 use Rattle.run.proofs.Endings.{run-whole, run-spent}
 use Rattle.ended_run.specs.Record.{in32Bits, recordOf}

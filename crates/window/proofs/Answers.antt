@@ -15,6 +15,6 @@ pub refusal-keeps : (w : Window) (e : Ended) (x : FtError) → adding w e .answe
 unfolding adding when
 refusal-keeps w e x = by-test (windowRight w)
   where
-  by-test : (b : Bool) → unless b (refused w) (accepted (added w e)) .answer ≡ A.Err x → unless b (refused w) (accepted (added w e)) .window ≡ w
-  by-test true h = let z : _≡_ {A = ℕ} 0 1 = cc in absurd (omega arith)
-  by-test false h = refl
+    by-test : (b : Bool) → unless b (refused w) (accepted (added w e)) .answer ≡ A.Err x → unless b (refused w) (accepted (added w e)) .window ≡ w
+    by-test true h = let z : _≡_ {A = ℕ} 0 1 = cc in absurd (omega arith)
+    by-test false h = refl

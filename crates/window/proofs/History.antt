@@ -1,11 +1,11 @@
 -- A window changed only by its calls: its totals are the sums over the latest records of its whole history, as many as the width allows.
-use Prim.Native.Nat.{ℕ, _+_, _-_, _≤_, _<_, min}
+use Prim.Native.Nat.{ℕ, _+_, _-_, _≤_, min}
 use mathlib.Core.Bool.{Bool, true, false}
 use mathlib.Core.Path.{_≡_, refl, sym, ap, _∙_}
 use mathlib.Core.List.{List, [], _∷_, _++_, append-assoc, append-nil}
 use native.Mathlib.Nat.{mod-lt}
 use native.Mathlib.Omega.{arith}
-use lib.ListN.{length, drop, set, length-append, length-set}
+use lib.ListN.{length, length-append, length-set}
 use lib.Seq.{drop-append-le}
 use Rattle.laws.specs.When.{unless}
 use Rattle.laws.proofs.Decide.{whens}
@@ -19,7 +19,7 @@ use Rattle.window.specs.declared.WindowAnswer.the-variants as A
 use Rattle.window.specs.declared.TotalsResult.the-variants as T
 use Rattle.window.proofs.Latest.{length-latest, latest-none, latest-all, latest-behind, latest-drop, latest-latest, latest-append}
 use Rattle.window.proofs.Ring.{length-ring, put-in-ring}
-use Rattle.window.proofs.Right.{Right, width-numbers, right-numbers, numbers-right}
+use Rattle.window.proofs.Right.{Right, width-numbers, numbers-right}
 
 -- ---- one record more
 

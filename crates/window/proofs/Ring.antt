@@ -1,6 +1,6 @@
 -- The ring of a window's places, read from the oldest record to the newest (`byAge`, specs/Window.antt).
-use Prim.Native.Nat.{ℕ, suc, _+_, _-_, _%_, _≤_, _<_}
-use mathlib.Core.Path.{_≡_, refl, sym, ap, _∙_}
+use Prim.Native.Nat.{ℕ, _+_, _-_, _%_, _≤_, _<_}
+use mathlib.Core.Path.{_≡_, sym, _∙_}
 use mathlib.Core.List.{List, [], _∷_, _++_, append-assoc, append-nil}
 use native.Mathlib.Nat.{mod-eq-of-lt, mod-self, add-mod-right}
 use native.Mathlib.Decide.{decLt}

@@ -8,7 +8,6 @@ use lib.ListN.{length, getD}
 use Rattle.window.specs.Window.{latest, byAge}
 use Rattle.window.specs.Totals.{wholeCount, withRecord, totalsOf}
 use Rattle.window.specs.declared.Ended.{Ended}
-use Rattle.window.specs.declared.Totals.{Totals}
 use Rattle.window.proofs.Latest.{latest-more}
 use Rattle.window.proofs.Ring.{length-ring, record-at}
 
