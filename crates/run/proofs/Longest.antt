@@ -20,11 +20,11 @@ use Rattle.twoparty.specs.declared.Settings.{Settings}
 -- ---- no more sendings are damaged than the list has entries
 
 -- how many of k sections, from number `nos` on, one entry names
-abbrev names : ℕ → ℕ → ℕ → ℕ
+abbrev pub names : ℕ → ℕ → ℕ → ℕ
 names d nos zero = 0
 names d nos (suc k) = when (eqb d nos) 1 0 + names d (suc nos) k
 
-names-none : (d nos k : ℕ) → d < nos → names d nos k ≡ 0
+pub names-none : (d nos k : ℕ) → d < nos → names d nos k ≡ 0
 unfolding when
 names-none d nos zero h = refl
 names-none d nos (suc k) h = simp (ne-eqb d nos (λ e. omega arith), names-none d (suc nos) k (omega arith))
@@ -39,12 +39,12 @@ names-one d nos (suc k) = by-test (eqb d nos) refl (names-one d (suc nos) k)
     by-test false e h = omega arith
 
 -- an entry more names at most one section more
-damaged-more : (d : ℕ) (ds : List ℕ) (nos k : ℕ) → damagedSendings (scriptRadio (d ∷ ds) nos k) ≡ names d nos k + damagedSendings (scriptRadio ds nos k)
+pub damaged-more : (d : ℕ) (ds : List ℕ) (nos k : ℕ) → damagedSendings (scriptRadio (d ∷ ds) nos k) ≡ names d nos k + damagedSendings (scriptRadio ds nos k)
 damaged-more d ds nos zero = refl
 damaged-more d ds nos (suc k) =
     simp length-replicate (omega (arith, damaged-more d ds (suc nos) k))
 
-damaged-none : (nos k : ℕ) → damagedSendings (scriptRadio [] nos k) ≡ 0
+pub damaged-none : (nos k : ℕ) → damagedSendings (scriptRadio [] nos k) ≡ 0
 damaged-none nos zero = refl
 damaged-none nos (suc k) = omega (arith, damaged-none (suc nos) k)
 
