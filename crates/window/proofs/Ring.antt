@@ -23,24 +23,30 @@ module _ (width place : ℕ) (records : List Ended) (in-width : place < width) (
   length-first : length (drop place (take width records)) ≡ width - place
   length-first = simp (length-take, length-drop) (omega arith)
 
+  -- the places before the next one come second
+  at-second : (n : ℕ) (d : Ended) → n < place → getD (byAge width place records) (width - place + n) d ≡ getD records n d
+  unfolding byAge
+  at-second n d h = rw (← length-first, getD-append-add, getD-take)
+
+  -- and those from there on first
+  at-first : (n : ℕ) (d : Ended) → place + n < width → getD (byAge width place records) n d ≡ getD records (place + n) d
+  unfolding byAge
+  at-first n d h =
+      let in-first : n < length (drop place (take width records)) = rw length-first (omega arith) in
+      rw (List·getD-append, getD-drop, getD-take)
+
   newer : (age : ℕ) (d : Ended) → age < place
       → getD (byAge width place records) (width - (age + 1)) d ≡ getD records ((place + (width - 1 - age)) % width) d
-  unfolding byAge
   newer age d h =
-      let i : width - (age + 1) ≡ length (drop place (take width records)) + (place - (age + 1)) = rw length-first (omega arith) in
-      let j : place + (width - 1 - age) ≡ (place - (age + 1)) + width = omega arith in
-      let a : place - (age + 1) < place = omega arith in
-      let b : place - (age + 1) < width = omega arith in
-      rw (i, getD-append-add, getD-take, j, round)
+      let i : width - (age + 1) ≡ width - place + (place - (age + 1)) = omega arith in
+      let j : place + (width - 1 - age) ≡ place - (age + 1) + width = omega arith in
+      rw (i, at-second (place - (age + 1)) d (omega arith), j, round (place - (age + 1)) width (omega arith))
 
   older : (age : ℕ) (d : Ended) → place ≤ age → age < width
       → getD (byAge width place records) (width - (age + 1)) d ≡ getD records ((place + (width - 1 - age)) % width) d
-  unfolding byAge
   older age d h k =
-      let a : width - (age + 1) < length (drop place (take width records)) = rw length-first (omega arith) in
-      let b : place + (width - (age + 1)) < width = omega arith in
       let j : place + (width - 1 - age) ≡ place + (width - (age + 1)) = omega arith in
-      rw (List·getD-append, getD-drop, getD-take, j, mod-eq-of-lt b)
+      rw (at-first (width - (age + 1)) d (omega arith), j, mod-eq-of-lt {n = place + (width - (age + 1))} {m = width} (omega arith))
 
   -- the record of an age stands so many places before the next one, round the width
   pub record-at : (age : ℕ) (d : Ended) → age < width
