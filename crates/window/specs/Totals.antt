@@ -11,10 +11,12 @@ use Rattle.window.specs.declared.Totals.{Totals}
 use Rattle.window.specs.declared.TotalsResult.{TotalsResult}
 use Rattle.window.specs.declared.TotalsResult.the-variants as T
 
+-- what a transfer adds to the count of whole ones
 abbrev pub wholeCount : Bool → ℕ
 wholeCount true = 1
 wholeCount false = 0
 
+-- of no records
 abbrev pub noTotals : Totals
 noTotals = record { octets = 0; frames = 0; damaged = 0; whole = 0 }
 
@@ -28,7 +30,7 @@ withRecord e t =
       whole = t .whole + wholeCount (e .whole);
     }
 
--- the sums over records, in the numbers without an end; the fourth counts the whole ones
+-- the sums over records, as natural numbers, which never overflow; the fourth counts the whole ones
 abbrev pub totalsOf : List Ended → Totals
 totalsOf [] = noTotals
 totalsOf (e ∷ es) = withRecord e (totalsOf es)

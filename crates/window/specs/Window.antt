@@ -49,7 +49,7 @@ abbrev pub emptyWindow : ℕ → Window
 emptyWindow width =
     record { width = width; count = 0; place = 0; records = replicate 64 (record { octets = 0; frames = 0; damaged = 0; whole = false }) }
 
--- the making
+-- the making; what it hands back on 33 has the width that was asked for, and so every call refuses it
 unfoldable pub making : ℕ → WindowStep
 making width = unless (widthRight width) (refused (emptyWindow width)) (accepted (emptyWindow width))
 
