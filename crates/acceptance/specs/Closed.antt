@@ -13,20 +13,6 @@ use Rattle.acceptance.specs.declared.FileClosed.TheVariants.{Whole, Differs}
 abbrev pub holds : ℕ → ℕ → Held
 holds kept staged = record { kept = kept; staged = staged }
 
--- these octets are
-abbrev pub held_of : List ℕ → List ℕ → Held
-held_of acc sec = holds (length acc) (length sec)
-
--- the section under way gains octets, is accepted, or is dropped
-abbrev pub gaining : Held → List ℕ → Held
-gaining h octets = holds h.kept (h.staged + length octets)
-
-abbrev pub accepting : Held → Held
-accepting h = holds (h.kept + h.staged) 0
-
-abbrev pub dropping : Held → Held
-dropping h = holds h.kept 0
-
 -- the octets accepted, and those of the section under way
 abbrev pub accepted : Held → List ℕ → List ℕ
 accepted h store = take h.kept store
@@ -41,11 +27,11 @@ is_held h store = leb (h.kept + h.staged) (length store)
 -- a section's close: an equal sum accepts a section that the store holds; else it is dropped
 unfoldable pub section_closed : Held → List ℕ → Chs → SectionClosed
 section_closed h store chs =
-    when (is_held h store and eqb (checksum (under_way h store)) chs.value) (Accepted (accepting h))
-    (Dropped (dropping h))
+    when (is_held h store and eqb (checksum (under_way h store)) chs.value) (Accepted (holds (h.kept + h.staged) 0))
+    (Dropped (holds h.kept 0))
 
 -- the file's close: whole where the accepted octets, and no others, have the stated sum; a section under way is dropped, and the accepted count stays
 unfoldable pub file_closed : Held → List ℕ → Chs → FileClosed
 file_closed h store chs =
-    when (is_held h store and eqb (checksum (accepted h store)) chs.value) (Whole (dropping h))
-    (Differs (record { value = checksum (accepted h store) }) (dropping h))
+    when (is_held h store and eqb (checksum (accepted h store)) chs.value) (Whole (holds h.kept 0))
+    (Differs (record { value = checksum (accepted h store) }) (holds h.kept 0))

@@ -1,7 +1,5 @@
--- The standard's numbers by their names: the types of the file transfer (IEC 60870-5-101, 7.2.1.1, and 60870-5-104, 8.9), the actions of SCQ (7.2.6.30), the values of LSQ (7.2.6.31) and the actions of AFQ (7.2.6.32).
-use Rattle.std.specs.Prelude.{ℕ, Bool, eqb}
-use Rattle.laws.specs.When.{◌or◌}
-use Rattle.asdu.specs.declared.Lsq.{Lsq}
+-- The standard's numbers by their names: the types of the file transfer (IEC 60870-5-101, 7.2.1.1, and 60870-5-104, 8.9), the actions of SCQ (7.2.6.30) and AFQ (7.2.6.32).
+use Rattle.std.specs.Prelude.{ℕ}
 
 -- ---- types
 
@@ -45,27 +43,6 @@ SELECT_SECTION = 5
 
 abbrev pub REQUEST_SECTION : ℕ
 REQUEST_SECTION = 6
-
--- ---- LSQ
-
-abbrev pub FILE_WITHOUT_DEACTIVATION : ℕ
-FILE_WITHOUT_DEACTIVATION = 1
-
-abbrev pub FILE_WITH_DEACTIVATION : ℕ
-FILE_WITH_DEACTIVATION = 2
-
-abbrev pub SECTION_WITHOUT_DEACTIVATION : ℕ
-SECTION_WITHOUT_DEACTIVATION = 3
-
-abbrev pub SECTION_WITH_DEACTIVATION : ℕ
-SECTION_WITH_DEACTIVATION = 4
-
--- whether it closes a section, and whether it closes the file
-abbrev pub lsq_of_section : Lsq → Bool
-lsq_of_section q = eqb q.value SECTION_WITHOUT_DEACTIVATION or eqb q.value SECTION_WITH_DEACTIVATION
-
-abbrev pub lsq_of_file : Lsq → Bool
-lsq_of_file q = eqb q.value FILE_WITHOUT_DEACTIVATION or eqb q.value FILE_WITH_DEACTIVATION
 
 -- ---- AFQ
 

@@ -29,7 +29,7 @@ use Rattle.ft.specs.Admission.{serves, frame_agrees, admit_frame, admit_known, o
 use Rattle.ft.specs.declared.FileTransferProcedure.{FileTransferProcedure}
 use Rattle.ft.specs.declared.Received.TheVariants as D
 use Rattle.ft.specs.declared.Reaction.TheVariants.{Answered}
-use Rattle.pager.specs.Pages.{entries_right, sent_entry, page_count, entry_count, page_address, sent_octets, page_octets, page_frame}
+use Rattle.pager.specs.Pages.{entries_of, entries_right, sent_entry, page_count, entry_count, page_address, sent_octets, page_octets, page_frame}
 use Rattle.pager.proofs.Entries.{page_full, page_ends}
 use Rattle.pager.proofs.Sent.{sent_back, sent_long, sent_first, sent_rest, entries_of_page}
 use Rattle.pager.proofs.Frames.{page_in_range}
@@ -89,36 +89,36 @@ module _ (o : List ℕ) (right : entries_right o ≡ true) (small : (i : ℕ) �
       rw (sent_first o right small n (b + j), sent_rest o right small n (b + j), address_from ioa b j, number, stored_sent ioa b n (suc j))
 
   -- the flag stands in the last entry of all and nowhere else
-  flag_of : (k : ℕ) → k < entries_in o → (entry_of (entry_octets (sent_entry o k))).sof.last_file_of_directory ≡ eqb (k + 1) (entries_in o)
+  flag_of : (k : ℕ) → k < entries_of o → (entry_of (entry_octets (sent_entry o k))).sof.last_file_of_directory ≡ eqb (k + 1) (entries_of o)
   unfolding sent_entry
   flag_of k h = rw (sent_back o right small k h)
 
-  none_last : (n k : ℕ) → k + n < entries_in o → any_last n (sent_octets o n k) ≡ false
+  none_last : (n k : ℕ) → k + n < entries_of o → any_last n (sent_octets o n k) ≡ false
   none_last zero k h = refl
   none_last (suc n) k h =
       simp (
         sent_first o right small n k,
         sent_rest o right small n k,
         flag_of k (omega arith),
-        ne_eqb (k + 1) (entries_in o) (λ e. omega arith),
+        ne_eqb (k + 1) (entries_of o) (λ e. omega arith),
         none_last n (suc k) (omega arith),
         whens,
       )
 
-  one_last : (n k : ℕ) → k + suc n ≡ entries_in o → any_last (suc n) (sent_octets o (suc n) k) ≡ true
+  one_last : (n k : ℕ) → k + suc n ≡ entries_of o → any_last (suc n) (sent_octets o (suc n) k) ≡ true
   one_last zero k h =
-      simp (sent_first o right small zero k, flag_of k (omega arith), eq-eqb (k + 1) (entries_in o) (omega arith), whens)
+      simp (sent_first o right small zero k, flag_of k (omega arith), eq-eqb (k + 1) (entries_of o) (omega arith), whens)
   one_last (suc n) k h =
       simp (
         sent_first o right small (suc n) k,
         sent_rest o right small (suc n) k,
         flag_of k (omega arith),
-        ne_eqb (k + 1) (entries_in o) (λ e. omega arith),
+        ne_eqb (k + 1) (entries_of o) (λ e. omega arith),
         one_last n (suc k) (omega arith),
         whens,
       )
 
-  last_of : (n k : ℕ) → 1 ≤ n → k + n ≡ entries_in o → any_last n (sent_octets o n k) ≡ true
+  last_of : (n k : ℕ) → 1 ≤ n → k + n ≡ entries_of o → any_last n (sent_octets o n k) ≡ true
   last_of zero k some h = absurd (omega arith)
   last_of (suc n) k some h = one_last n k h
 
@@ -138,20 +138,20 @@ module _ (d : Directory) where
   abbrev call_with : ℕ → DirectoryCall
   call_with m = holding c (c.held + m)
 
-  store_size : (m : ℕ) → m ≤ entries_in o → length (store_with m) ≡ length d.store
+  store_size : (m : ℕ) → m ≤ entries_of o → length (store_with m) ≡ length d.store
   store_size m h =
       let size = stored_size o d.first m 0 in
       let room = d.room in
       written_long d.store (17 * c.held) (sent_stored o d.first m 0) (omega arith)
 
-  with_agrees : (m : ℕ) → m ≤ entries_in o → call_agrees (call_with m) (store_with m) ≡ true
+  with_agrees : (m : ℕ) → m ≤ entries_of o → call_agrees (call_with m) (store_with m) ≡ true
   unfolding call_agrees
   with_agrees m h =
       let room = d.room in
       simp (d.settings, store_size m h, le-leb (17 * (c.held + m)) (length d.store) (omega arith), whens)
 
   -- entries behind those that are held
-  store_more : (m n : ℕ) → m + n ≤ entries_in o → written (store_with m) (17 * (c.held + m)) (sent_stored o d.first n m) ≡ store_with (m + n)
+  store_more : (m n : ℕ) → m + n ≤ entries_of o → written (store_with m) (17 * (c.held + m)) (sent_stored o d.first n m) ≡ store_with (m + n)
   store_more m n h =
       let size = stored_size o d.first m 0 in
       let room = d.room in
@@ -209,10 +209,10 @@ module _ (d : Directory) where
     page_runs more =
         simp (page_not_last more, whens, add_assoc)
 
-    page_completes : suc i ≡ page_count o → on_held (call_with (i * 18)) (c.held + i * 18 + n) (page_octets o i) ≡ stepped (ended (call_with (entries_in o))) (Complete (all_held d))
+    page_completes : suc i ≡ page_count o → on_held (call_with (i * 18)) (c.held + i * 18 + n) (page_octets o i) ≡ stepped (ended (call_with (entries_of o))) (Complete (all_held d))
     unfolding on_held
     page_completes last =
-        let all : c.held + i * 18 + n ≡ c.held + entries_in o = omega (arith, page_ends o i last) in
+        let all : c.held + i * 18 + n ≡ c.held + entries_of o = omega (arith, page_ends o i last) in
         simp (page_last last, whens, all)
 
   handed_before : (i : ℕ) → i < page_count o → handed d i ≡ leaving (store_with (i * 18)) (stepped (call_with (i * 18)) Running)
@@ -223,12 +223,12 @@ module _ (d : Directory) where
       ap (hand_over d i) (handed_before i now) ∙ page_taken i now ∙ rw (page_runs i now h, more)
 
   -- after the last page
-  handed_all : (i : ℕ) → suc i ≡ page_count o → handed d (suc i) ≡ leaving (store_with (entries_in o)) (stepped (ended (call_with (entries_in o))) (Complete (all_held d)))
+  handed_all : (i : ℕ) → suc i ≡ page_count o → handed d (suc i) ≡ leaving (store_with (entries_of o)) (stepped (ended (call_with (entries_of o))) (Complete (all_held d)))
   handed_all i last =
       let now : i < page_count o = omega arith in
       ap (hand_over d i) (handed_before i now) ∙ page_taken i now ∙ rw (page_completes i now last, page_ends o i last)
 
-  at_end : (n : ℕ) → 0 < n → n ≡ page_count o → handed d n ≡ leaving (store_with (entries_in o)) (stepped (ended (call_with (entries_in o))) (Complete (all_held d)))
+  at_end : (n : ℕ) → 0 < n → n ≡ page_count o → handed d n ≡ leaving (store_with (entries_of o)) (stepped (ended (call_with (entries_of o))) (Complete (all_held d)))
   at_end zero some e = absurd (omega arith)
   at_end (suc i) some e = handed_all i e
 

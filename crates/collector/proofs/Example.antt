@@ -15,8 +15,7 @@ use Rattle.ft.specs.Procedure.{conventional, address_right, settled}
 use Rattle.ft.specs.Admission.{serves}
 use Rattle.ft.specs.declared.Role.TheVariants.{Controlling, Controlled}
 use Rattle.ft.specs.declared.FileTransferProcedure.{FileTransferProcedure}
-use Rattle.stored.specs.Stored.{entries_in}
-use Rattle.pager.specs.Pages.{entries_right, pages_of, page_count, page_address, page_frame}
+use Rattle.pager.specs.Pages.{entries_of, entries_right, page_count, page_address, page_frame}
 use Rattle.collector.specs.Record.{fresh_call, starting}
 use Rattle.collector.specs.Handed.{Sound, Directory, Collected}
 use Rattle.collector.proofs.Collected.{directory_collected}
@@ -33,7 +32,7 @@ abbrev entries : List ℕ
 entries = replicate 247 0
 
 right : entries_right entries ≡ true
-unfolding entries_right entries_in reserved_clear when
+unfolding entries_right entries_of reserved_clear when
 right = refl
 
 settings : settled station ≡ true
@@ -45,7 +44,7 @@ unfolding serves when
 direction = refl
 
 two_pages : page_count entries ≡ 2
-unfolding page_count pages_of entries_in div_ceil
+unfolding page_count entries_of div_ceil
 two_pages = refl
 
 -- page i is at 100 or at 118
@@ -53,8 +52,8 @@ near : (i : ℕ) → i < 2 → page_address 100 i ≤ max_ioa conventional
 unfolding page_address entry_address max_ioa when
 near i h = omega arith
 
-room : 17 * (0 + entries_in entries) ≤ 323
-unfolding entries_in
+room : 17 * (0 + entries_of entries) ≤ 323
+unfolding entries_of
 room = lit≤ tt
 
 abbrev headers : ℕ → Header

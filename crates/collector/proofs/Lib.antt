@@ -4,4 +4,3 @@ pub mod Refusals
 pub mod Collected
 pub mod Reading
 pub mod Example
-pub mod Unknown

@@ -8,10 +8,10 @@ use lib.ListN.{length, take, drop}
 use Rattle.asdu.specs.Entry.{entry_octets, entry_address}
 use Rattle.asdu.specs.declared.EntryResult.TheVariants.{Ok}
 use Rattle.asdu.proofs.Octets.{thirteen}
-use Rattle.stored.specs.Stored.{entries_in, stored_entry, octets_at, address_in, entry_in}
+use Rattle.stored.specs.Stored.{stored_entry, octets_at, address_in, entry_in}
 use Rattle.stored.proofs.StoredLaws.{entry_long}
 use Rattle.stored.proofs.Reading.{address_back, entry_back, address_small, first_of, rest_of, behind_held}
-use Rattle.pager.specs.Pages.{sent_entry, page_count}
+use Rattle.pager.specs.Pages.{entries_of, sent_entry, page_count}
 use Rattle.pager.proofs.Sent.{sent_unpacks}
 use Rattle.collector.specs.Handed.{Directory, handed, sent_stored}
 use Rattle.collector.proofs.Collected.{stored_size, directory_collected}
@@ -30,13 +30,13 @@ sent_at o ioa (suc n) j (suc k) h =
     ap (take 17) (rest_of x (sent_stored o ioa n (suc j)) k long) ∙ sent_at o ioa n (suc j) k (omega arith) ∙ rw number
 
 -- the pages of a list of entries that a call collected: entry k of all, with its flag as the pager sets it
-pub directory_reads_back : (d : Directory) → 0 < page_count d.entries → (k : ℕ) → k < entries_in d.entries
+pub directory_reads_back : (d : Directory) → 0 < page_count d.entries → (k : ℕ) → k < entries_of d.entries
     → (address_in (octets_at (d.call.held + k) (handed d (page_count d.entries)).store) ≡ entry_address d.first k)
     × (entry_in (octets_at (d.call.held + k) (handed d (page_count d.entries)).store) ≡ Ok (sent_entry d.entries k))
 unfolding entry_in
 directory_reads_back d some k h =
     let o = d.entries in
-    let n = entries_in o in
+    let n = entries_of o in
     let e = entry_octets (sent_entry o k) in
     let long = stored_size o d.first n 0 in
     let room = d.room in

@@ -6,14 +6,14 @@ use Rattle.asdu.specs.Entry.{entry_octets, entry_address}
 use Rattle.asdu.specs.declared.AddressSizes.{AddressSizes}
 use Rattle.asdu.specs.declared.Header.{Header}
 use Rattle.asdu.specs.declared.UnknownField.TheVariants as U
-use Rattle.stored.specs.Stored.{entries_in, stored_entry}
+use Rattle.stored.specs.Stored.{stored_entry}
 use Rattle.frame.specs.declared.Frame.{Frame}
 use Rattle.frame.specs.Frames.{type_of, cause_of}
 use Rattle.ft.specs.Directions.{other_role}
 use Rattle.ft.specs.Procedure.{settled}
 use Rattle.ft.specs.Admission.{serves}
 use Rattle.ft.specs.declared.Received.TheVariants as D
-use Rattle.pager.specs.Pages.{entries_right, sent_entry, page_count, page_address, page_octets, page_frame}
+use Rattle.pager.specs.Pages.{entries_of, entries_right, sent_entry, page_count, page_address, page_octets, page_frame}
 use Rattle.collector.specs.Collecting.{Outcome, stepped, holding, ended, leaving, collect}
 use Rattle.collector.specs.declared.DirectoryCall.{DirectoryCall}
 use Rattle.collector.specs.declared.DirectoryAnswer.TheVariants.{Running, Complete}
@@ -40,7 +40,7 @@ pub record Directory : Type 0 where
   pub running : call.done ≡ false
   -- a store with room for all
   pub store : List ℕ
-  pub room : 17 * (call.held + entries_in entries) ≤ length store
+  pub room : 17 * (call.held + entries_of entries) ≤ length store
   -- each page has an address within the width, and a sound header
   pub within : (i : ℕ) → i < page_count entries → page_address first i ≤ max_ioa call.procedure.sizes
   pub headers : ℕ → Header
@@ -62,13 +62,13 @@ sent_stored o ioa (suc n) k = stored_entry (entry_address ioa k) (entry_octets (
 
 -- the entries that the call then holds
 abbrev pub all_held : Directory → ℕ
-all_held d = d.call.held + entries_in d.entries
+all_held d = d.call.held + entries_of d.entries
 
 -- the call completes on the last page, naming them, and not before; its store has exactly these entries behind those it held
 pub record Collected (d : Directory) : Type 0 where
   pub before : (i : ℕ) → i < page_count d.entries → (handed d i).step.answer ≡ Running
   pub completes : (handed d (page_count d.entries)).step ≡ stepped (ended (holding d.call (all_held d))) (Complete (all_held d))
-  pub leaves : (handed d (page_count d.entries)).store ≡ written d.store (17 * d.call.held) (sent_stored d.entries d.first (entries_in d.entries) 0)
+  pub leaves : (handed d (page_count d.entries)).store ≡ written d.store (17 * d.call.held) (sent_stored d.entries d.first (entries_of d.entries) 0)
 
 -- of every list that has a page
 abbrev pub DirectoryCollected : Type 0

@@ -26,8 +26,17 @@ fn word_and_number(word: &[u8], n: u64) {
     text(b"\n");
 }
 
-// `refused` and its number, in one line.
-pub fn refused(error: FtError) {
+// The first octets of a buffer.
+fn front(octets: &[u8], count: usize) -> &[u8]
+    ensures { result.now ≡ take count octets.now }
+{
+    if count <= octets.len() {
+        return &octets[0..count];
+    }
+    octets
+}
+
+fn refused(error: FtError) {
     word_and_number(b"refused ", error.number() as u64);
 }
 
@@ -45,7 +54,7 @@ fn settings(script: Outline) -> Settings
 }
 
 fn print_line(out: &[u8; 32], count: usize) {
-    text(sections::cut(out, 0, count));
+    text(front(out, count));
 }
 
 fn print_frame(sender: Sender, frame: Frame) {
@@ -92,11 +101,11 @@ fn print_run(settings: Settings, file: &[u8], damage: &[u8], frames: usize) {
 // The frames of the run, then how it ended.
 fn print_ending(settings: Settings, file: &[u8], damage: &[u8], ending: RunResult) {
     match ending {
-        RunResult::Whole { octets, frames } => {
+        RunResult::Whole { length, frames } => {
             print_run(settings, file, damage, frames);
-            word_and_number(b"whole ", octets as u64);
+            word_and_number(b"whole ", length as u64);
         }
-        RunResult::Spent { frames, .. } => {
+        RunResult::Spent { frames } => {
             print_run(settings, file, damage, frames);
             text(b"spent\n");
         }
@@ -124,9 +133,9 @@ fn play_script(
     ensures { (result ≡ (transferred (settings_with script.ioa script.nof) (take script.file_len file.now) (take script.damage_len damage.now) store.old).result)
         × (store.new ≡ (transferred (settings_with script.ioa script.nof) (take script.file_len file.now) (take script.damage_len damage.now) store.old).store) }
 {
-    let octets = sections::cut(file, 0, script.file_len);
-    let named = sections::cut(damage, 0, script.damage_len);
-    transfer(settings(script), octets, named, store)
+    let octets = front(file, script.file_len);
+    let sections = front(damage, script.damage_len);
+    transfer(settings(script), octets, sections, store)
 }
 
 // Runs the script that the text is, into the lent store: prints one line for each frame that passes,

@@ -3,27 +3,33 @@ use collector::{
     CallResult, DirectoryAnswer, DirectoryCall, DirectoryStart, DirectoryStep, StartAnswer,
 };
 use frame::Frame;
-use station_calls::kept::{CALL, STATION};
+use station_calls::kept::STATION;
 use station_calls::{kept as held, stations};
 use values::{make, show};
 use words::{Numbers, Octets, at, flag_at, keep, later, of_flag, put, read, text, u32_at, write};
+
+// The places of the call: its station, started, held, done.
+const CALL: u8 = 112;
 
 // ---- The record
 
 fn record(numbers: &Numbers) -> DirectoryCall {
     DirectoryCall {
         procedure: held::station(numbers, CALL),
-        started: flag_at(numbers, CALL, held::CALL_STARTED),
-        held: at(numbers, CALL, held::CALL_HELD) as usize,
-        done: flag_at(numbers, CALL, held::CALL_DONE),
+        started: flag_at(numbers, CALL, 7),
+        held: at(numbers, CALL, 8) as usize,
+        done: flag_at(numbers, CALL, 9),
     }
 }
 
 fn keep_record(numbers: &mut Numbers, call: DirectoryCall) {
     let station = call.procedure;
-    let own: [u64; held::CALL_OWN] = [of_flag(call.started), call.held as u64, of_flag(call.done)];
     held::keep_station(numbers, CALL, station);
-    keep(numbers, later(CALL, held::STATION_LEN), &own);
+    keep(
+        numbers,
+        later(CALL, 7),
+        &[of_flag(call.started), call.held as u64, of_flag(call.done)],
+    );
 }
 
 fn show_record(regs: &Numbers) {
@@ -111,10 +117,10 @@ fn on_asdu_in(regs: &mut Numbers, store: &mut [u8], args: &Numbers, octets: &[u8
 // Sets a field, or takes the station kept.
 fn set(which: u8, regs: &mut Numbers, number: u64) {
     match which {
-        0 => put(regs, CALL, held::CALL_STARTED, number),
-        1 => put(regs, CALL, held::CALL_HELD, number),
-        2 => put(regs, CALL, held::CALL_DONE, number),
-        _ => held::copy_within(regs, STATION, CALL, held::STATION_LEN),
+        0 => put(regs, CALL, 7, number),
+        1 => put(regs, CALL, 8, number),
+        2 => put(regs, CALL, 9, number),
+        _ => held::copy_within(regs, STATION, CALL, held::STATION_PLACES),
     }
     write::word(write::SET);
 }

@@ -16,9 +16,8 @@ use Rattle.stored.specs.Stored.{address_in}
 use Rattle.script.specs.Decimal.{decimal}
 use Rattle.script.proofs.Decimals.{either, decimal_one, decimal_more, digits_most}
 use Rattle.directory_page.specs.Line.{in_places, aligned, zeroed, mark, flags_text, date_text, clock_text, line_text}
-use Rattle.directory_page.specs.Page.{is_printable, entry_line}
+use Rattle.directory_page.specs.Page.{within_bounds, is_printable, entry_line}
 use Rattle.directory_page.specs.Shown.{shown, entry_shown, value_from, number_at, is_marked, read_line}
-use Rattle.directory_page.proofs.Faults.{printable_within}
 use Rattle.directory_page.proofs.Places.{places_long}
 
 -- ---- a number
@@ -161,21 +160,21 @@ abbrev Octets : List ℕ → Type 0
 Octets s = (i : ℕ) → get_or s i 0 < 256
 
 printable_fits : (s : List ℕ) → Octets s → is_printable s ≡ true → Fits (address_in s) (entry_of (drop 4 s))
-unfolding entry_of time_at sof_of
+unfolding is_printable within_bounds entry_of time_at sof_of
 printable_fits s small h =
     let o : (i : ℕ) → get_or (drop 4 s) i 0 < 256 = λ i. rw (get_or-drop 4 s i 0) (small (4 + i)) in
-    let ioa = both _ _ (sym (printable_within s) ∙ h) in
-    let yrs = both _ _ ioa.0 in
-    let mon = both _ _ yrs.0 in
-    let hrs = both _ _ mon.0 in
-    let min = both _ _ hrs.0 in
+    let ms = both _ _ h in
+    let min = both _ _ ms.1 in
+    let hrs = both _ _ min.1 in
+    let mon = both _ _ hrs.1 in
+    let yrs = both _ _ mon.1 in
     let t = (entry_of (drop 4 s)).time in
-    let address : address_in s ≤ 99999999 = leb-true _ _ ioa.1 in
-    let year : t.years ≤ 99 = leb-true _ _ yrs.1 in
-    let month : t.months ≤ 12 = leb-true _ _ mon.1 in
-    let hours : t.hours ≤ 23 = leb-true _ _ hrs.1 in
-    let minutes : t.minutes ≤ 59 = leb-true _ _ min.1 in
-    let milliseconds : t.milliseconds ≤ 59999 = leb-true _ _ min.0 in
+    let address : address_in s ≤ 99999999 = leb-true _ _ yrs.1 in
+    let year : t.years ≤ 99 = leb-true _ _ yrs.0 in
+    let month : t.months ≤ 12 = leb-true _ _ mon.0 in
+    let hours : t.hours ≤ 23 = leb-true _ _ hrs.0 in
+    let minutes : t.minutes ≤ 59 = leb-true _ _ min.0 in
+    let milliseconds : t.milliseconds ≤ 59999 = leb-true _ _ ms.0 in
     record {
       address = omega arith;
       nof = omega (arith, o 0, o 1);

@@ -1,4 +1,4 @@
-pub mod Fault
 pub mod Line
 pub mod Page
+pub mod Judging
 pub mod Shown

@@ -1,17 +1,13 @@
--- A directory page to print (document 02, A3): which entries can be printed, and what is refused of the others; their lines joined; what writing a page answers and leaves in the buffer.
-use Rattle.std.specs.Prelude.{ℕ, suc, ◌/◌, ◌%◌, Bool, true, List, [], ◌∷◌, map, eqb, leb, length, drop}
-use Rattle.std.proofs.Math.Option.{Option, none, some}
+-- A directory page to print (document 02, A3): which entries can be printed, their lines joined, and what writing a page answers and leaves in the buffer.
+use Rattle.std.specs.Prelude.{ℕ, ◌/◌, ◌%◌, Bool, true, List, [], ◌∷◌, map, eqb, leb, length, drop}
 use Rattle.laws.specs.When.{when, unless, ◌and◌}
 use Rattle.lists.specs.Parts.{parts, joined}
 use Rattle.asdu.specs.Entry.{entry_of, reserved_clear}
-use Rattle.asdu.specs.declared.FtError.{FtError}
+use Rattle.asdu.specs.declared.Cp56Time2a.{Cp56Time2a}
 use Rattle.asdu.specs.declared.FtError.TheVariants.{ValueOutOfRange, NotPrintable, PageTooShort}
 use Rattle.script.specs.Answers.{over}
 use Rattle.stored.specs.Stored.{address_in}
-use Rattle.directory_page.specs.Fault.{is_none, ◌or_else◌, over_in, reserved_in}
 use Rattle.directory_page.specs.Line.{line_text}
-use Rattle.directory_page.specs.declared.Fault.{Fault}
-use Rattle.directory_page.specs.declared.Fault.TheVariants.{Nothing, Part}
 use Rattle.directory_page.specs.declared.PrintResult.{PrintResult}
 use Rattle.directory_page.specs.declared.PrintResult.TheVariants.{Ok, Err}
 
@@ -21,13 +17,18 @@ use Rattle.directory_page.specs.declared.PrintResult.TheVariants.{Ok, Err}
 unfoldable pub is_clear : List ℕ → Bool
 is_clear s = reserved_clear (drop 4 s)
 
--- the first field over its limit
-unfoldable pub over_at : ℕ → List ℕ → Fault
-over_at k s = over_in k (address_in s) (entry_of (drop 4 s)).time
+-- a time within document 02's bounds, and an address of at most 8 digits
+unfoldable pub within_bounds : ℕ → Cp56Time2a → Bool
+within_bounds ioa t =
+    leb t.milliseconds 59999
+    and leb t.minutes 59
+    and leb t.hours 23
+    and leb t.months 12
+    and leb t.years 99
+    and leb ioa 99999999
 
--- no field is over its limit, whatever the entry's number
 unfoldable pub is_printable : List ℕ → Bool
-is_printable s = is_none (over_at 1 s)
+is_printable s = within_bounds (address_in s) (entry_of (drop 4 s)).time
 
 unfoldable pub entry_line : List ℕ → List ℕ
 entry_line s = line_text (address_in s) (entry_of (drop 4 s))
@@ -48,16 +49,6 @@ all_right o = eqb (length o % 17) 0 and every is_clear (stored_entries o)
 -- entries that can all be printed: else 27
 unfoldable pub all_printable : List ℕ → Bool
 all_printable o = every is_printable (stored_entries o)
-
--- what is refused of the first entry of which something is, where the first of all has the number k
-abbrev pub first_of : (ℕ → List ℕ → Fault) → ℕ → List (List ℕ) → Fault
-first_of f k [] = Nothing
-first_of f k (e ∷ es) = f k e or_else first_of f (suc k) es
-
--- what is refused of all, where that is anything: 4, then 27
-unfoldable pub fault_in : List ℕ → Fault
-fault_in o =
-    unless (eqb (length o % 17) 0) Part (first_of reserved_in 1 (stored_entries o) or_else first_of over_at 1 (stored_entries o))
 
 -- ---- the page
 
@@ -80,8 +71,3 @@ print_answer o len =
 -- the buffer afterwards: the page over its front; a refusal leaves it as it came in
 unfoldable pub page_after : List ℕ → List ℕ → List ℕ
 page_after o buffer = when (all_right o and all_printable o and page_fits o (length buffer)) (over (page_text o) buffer) buffer
-
--- the error that is answered
-abbrev pub answer_error : PrintResult → Option FtError
-answer_error (Ok n) = none
-answer_error (Err x) = some x

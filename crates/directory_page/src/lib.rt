@@ -2,16 +2,17 @@
 // directory call's store has them, 17 octets each (document 01, The directory). Each becomes a line of 52
 // characters and a newline, and the lines are written over the front of a lent page.
 ghost use Rattle.std.specs.Prelude.{◌≡◌, true, [], ◌∷◌, ◌++◌, ◌+◌, ◌*◌, ◌/◌, ◌%◌, ◌<◌, ◌≤◌, eqb, length};
-ghost use Rattle.laws.specs.When.{when};
+ghost use Rattle.laws.specs.When.{when, ◌and◌};
 ghost use Rattle.lists.specs.Parts.{joined};
 ghost use Rattle.store.specs.Store.{written};
 ghost use Rattle.script.specs.Answers.{over};
+ghost use Rattle.stored.specs.Stored.{address_in};
 ghost use Rattle.directory_page.specs.Line.{newline, space, in_places, aligned, mark, flags_text, date_text, clock_text, line_text};
-ghost use Rattle.directory_page.specs.Page.{is_clear, all_right, all_printable, entry_line, page_text, fault_in, print_answer, page_after};
-ghost use Rattle.directory_page.specs.Fault.{◌or_else◌, beyond, over_in, reserved_in};
+ghost use Rattle.directory_page.specs.Page.{is_clear, within_bounds, all_right, entry_line, page_text, print_answer, page_after};
+ghost use Rattle.directory_page.specs.Judging.{judged_as};
 
 use asdu::{Cp56Time2a, DirectoryEntry, EntryResult, FtError, Sof};
-use stored::{STORED, address_in};
+use stored::STORED;
 
 // The octets of a line: 52 characters and a newline.
 pub const LINE: usize = 53;
@@ -23,33 +24,11 @@ pub enum PrintResult {
     Err(FtError),
 }
 
-// A field of an entry that a refusal can be about.
+// Whether entries can be printed, or why not.
 #[derive(Drop)]
-pub enum Field {
-    Milliseconds,
-    Minutes,
-    Hours,
-    Month,
-    Year,
-    Address,
-}
-
-// Why entries cannot be printed: they are no whole entries (4), a reserved bit is set in the octet of a field (4),
-// or a field is over its limit (27). An entry is told by its number, counted from 1.
-#[derive(Drop)]
-pub enum Fault {
-    Nothing,
-    Part,
-    Reserved {
-        entry: usize,
-        field: Field,
-    },
-    Over {
-        entry: usize,
-        field: Field,
-        value: u32,
-        limit: u32,
-    },
+enum Judged {
+    Ok,
+    Err(FtError),
 }
 
 // ---- One line
@@ -157,72 +136,41 @@ fn put_line(line: &mut [u8], ioa: u32, entry: DirectoryEntry)
 
 // ---- One entry
 
-// The fault of a field with this value where it is over its limit.
-fn beyond(entry: usize, field: Field, value: u32, limit: u32) -> Fault
-    ensures { result ≡ beyond entry field value limit }
+// An octet as a number that has room for more.
+fn wide(octet: u8) -> u32
+    ensures { (result ≡ octet) × (result ≤ 255) }
 {
-    if value <= limit {
-        return Fault::Nothing;
-    }
-    Fault::Over {
-        entry,
-        field,
-        value,
-        limit,
-    }
+    octet as u32
 }
 
-// The first of two faults that is one.
-fn first(one: Fault, other: Fault) -> Fault
-    ensures { result ≡ (one or_else other) }
+// The object address that an entry's octets begin with, the lowest octet first.
+fn address_in(octets: &[u8]) -> u32
+    requires { 4 ≤ length octets.now }
+    ensures { result ≡ address_in octets.now }
 {
-    match one {
-        Fault::Nothing => other,
-        Fault::Part => one,
-        Fault::Reserved { .. } => one,
-        Fault::Over { .. } => one,
-    }
+    wide(octets[0]) + 256 * wide(octets[1]) + 65536 * wide(octets[2]) + 16777216 * wide(octets[3])
 }
 
-// The first field over its limit (document 02, A3).
-fn over_in(entry: usize, ioa: u32, time: Cp56Time2a) -> Fault
-    ensures { result ≡ over_in entry ioa time }
+// Whether an address and a time are within document 02's bounds: else 27.
+fn is_within_bounds(ioa: u32, time: Cp56Time2a) -> bool
+    ensures { result ≡ within_bounds ioa time }
 {
-    let mut found = beyond(entry, Field::Milliseconds, time.milliseconds as u32, 59_999);
-    found = first(
-        found,
-        beyond(entry, Field::Minutes, time.minutes as u32, 59),
-    );
-    found = first(found, beyond(entry, Field::Hours, time.hours as u32, 23));
-    found = first(found, beyond(entry, Field::Month, time.months as u32, 12));
-    found = first(found, beyond(entry, Field::Year, time.years as u32, 99));
-    first(found, beyond(entry, Field::Address, ioa, 99_999_999))
-}
-
-// The first field whose octet has a reserved bit set: two of the hours', four of the month's, one of the year's.
-fn reserved_in(entry: usize, octets: &[u8]) -> Fault
-    requires { length octets.now ≡ 17 }
-    ensures { result ≡ reserved_in entry octets.now }
-{
-    if octets[13] / 32 % 4 != 0 {
-        return Fault::Reserved {
-            entry,
-            field: Field::Hours,
-        };
+    if 59999 < time.milliseconds {
+        return false;
     }
-    if octets[15] / 16 != 0 {
-        return Fault::Reserved {
-            entry,
-            field: Field::Month,
-        };
+    if 59 < time.minutes {
+        return false;
     }
-    if octets[16] / 128 != 0 {
-        return Fault::Reserved {
-            entry,
-            field: Field::Year,
-        };
+    if 23 < time.hours {
+        return false;
     }
-    Fault::Nothing
+    if 12 < time.months {
+        return false;
+    }
+    if 99 < time.years {
+        return false;
+    }
+    ioa <= 99_999_999
 }
 
 // Puts the line of an entry whose reserved bits are 0.
@@ -239,27 +187,39 @@ fn put_entry(line: &mut [u8], octets: &[u8])
 
 // ---- A page
 
-// What is refused of entries, in document 02's order: over all entries first a reserved bit, then a field over its
-// limit; of several entries the first, and of its fields the first.
-pub fn find(entries: &[u8]) -> Fault
-    ensures { result ≡ fault_in entries.now }
+// Both of two tests.
+fn both(a: bool, b: bool) -> bool
+    ensures { result ≡ (a and b) }
+{
+    if a {
+        return b;
+    }
+    false
+}
+
+// Judges all entries: 4 wherever they are not whole or one has a reserved bit set, and only then 27.
+fn judge(entries: &[u8]) -> Judged
+    ensures { result ≡ judged_as entries.now }
 {
     if entries.len() % STORED != 0 {
-        return Fault::Part;
+        return Judged::Err(FtError::ValueOutOfRange);
     }
-    let count = entries.len() / STORED;
-    let mut found = Fault::Nothing;
-    let mut i = 0;
-    while i < count {
-        let at = STORED * i;
+    let mut printable = true;
+    let mut left = entries.len() / STORED;
+    let mut at = 0;
+    while 0 < left {
         let octets = &entries[at..at + STORED];
         let EntryResult::Ok(entry) = DirectoryEntry::unpack(&octets[4..]) else {
-            return reserved_in(i + 1, octets);
+            return Judged::Err(FtError::ValueOutOfRange);
         };
-        i += 1;
-        found = first(found, over_in(i, address_in(octets), entry.time));
+        printable = both(printable, is_within_bounds(address_in(octets), entry.time));
+        at += STORED;
+        left -= 1;
     }
-    found
+    if printable {
+        return Judged::Ok;
+    }
+    Judged::Err(FtError::NotPrintable)
 }
 
 // Writes the entries' lines over the front of a page that has room for them.
@@ -277,28 +237,18 @@ fn write_lines(entries: &[u8], page: &mut [u8])
     }
 }
 
-// Writes the page of entries that can all be printed: 28 where it has no room.
-fn write_printable(entries: &[u8], page: &mut [u8]) -> PrintResult
-    requires { (all_right entries.now ≡ true) × (all_printable entries.now ≡ true) }
+// Writes the page of these entries over the front of a lent page, and answers how many octets it has. 4, then
+// 27, then 28 over all entries: a refusal writes nothing.
+pub fn write(entries: &[u8], page: &mut [u8]) -> PrintResult
     ensures { (result ≡ print_answer entries.now (length page.old)) × (page.new ≡ page_after entries.now page.old) }
 {
+    if let Judged::Err(error) = judge(entries) {
+        return PrintResult::Err(error);
+    }
     let count = entries.len() / STORED;
     if page.len() / LINE < count {
         return PrintResult::Err(FtError::PageTooShort);
     }
     write_lines(entries, page);
     PrintResult::Ok(LINE * count)
-}
-
-// Writes the page of these entries over the front of a lent page, and answers how many octets it has. 4, then
-// 27, then 28 over all entries: a refusal writes nothing.
-pub fn write(entries: &[u8], page: &mut [u8]) -> PrintResult
-    ensures { (result ≡ print_answer entries.now (length page.old)) × (page.new ≡ page_after entries.now page.old) }
-{
-    match find(entries) {
-        Fault::Nothing => write_printable(entries, page),
-        Fault::Part => PrintResult::Err(FtError::ValueOutOfRange),
-        Fault::Reserved { .. } => PrintResult::Err(FtError::ValueOutOfRange),
-        Fault::Over { .. } => PrintResult::Err(FtError::NotPrintable),
-    }
 }

@@ -1,4 +1,3 @@
 pub mod OctetLaws
 pub mod Meaning
-pub mod Faults
 pub mod Worked

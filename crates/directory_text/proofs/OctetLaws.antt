@@ -1,6 +1,6 @@
 -- Reading octets one by one: those that were read stand in front of what the rest of the text is.
-use Prim.Native.Nat.{ℕ, zero, suc, ◌+◌, ◌-◌, ◌/◌, ◌%◌, ◌≤◌, ◌<◌}
-use mathlib.Core.Bool.{Bool, true, false}
+use Prim.Native.Nat.{ℕ, zero, suc, ◌+◌, ◌-◌, ◌%◌, ◌≤◌, ◌<◌}
+use mathlib.Core.Bool.{true}
 use mathlib.Core.Path.{◌≡◌, refl, sym, ap, ◌∙◌}
 use mathlib.Core.Option.{Option, none, some}
 use mathlib.Core.List.{List, [], ◌∷◌, ◌++◌, append_assoc, append-nil}
@@ -8,8 +8,7 @@ use native.Mathlib.Numerals.{add-one}
 use native.Mathlib.Omega.{arith}
 use lib.ListN.{length, take, drop, set}
 use lib.Seq.{take-suc-set}
-use borrow.Author.Tests.{eqb-true, eqb-false, eq-eqb, ne_eqb}
-use lib.Dec.{eqb}
+use borrow.Author.Tests.{eqb-true, eq-eqb, ne_eqb}
 use Rattle.laws.specs.When.{when}
 use Rattle.laws.proofs.Decide.{whens}
 use Rattle.script.specs.Decimal.{decimal}
@@ -17,7 +16,7 @@ use Rattle.script.specs.Reader.{nothing, found, begins, begins_digit, number}
 use Rattle.script.proofs.ReaderLaws.{here, past}
 use Rattle.script.proofs.NumberLaws.{number_text, holds}
 use Rattle.script.proofs.Meaning.{then_found, moved}
-use Rattle.directory_text.specs.Text.{behind, octet_in, in_front_of, none_from, octets_from, entries_of, octets_in_front, broken_line}
+use Rattle.directory_text.specs.Text.{behind, octet_in, in_front_of, none_from, octets_from, entries_of}
 
 -- ---- one octet
 
@@ -103,36 +102,3 @@ module _ (out text : List ℕ) (k at : ℕ) where
 
     pub part_end : (k % 17 ≡ 0 → ⊥) → none ≡ all_of out k (drop at text)
     part_end e = rw (past text at h, octets_end (17000 - k) k) (simp (whens, ne_eqb _ _ e))
-
--- ---- how many octets stand in front
-
--- k octets, and those that the rest of the text has in front
-abbrev pub front_of : ℕ → List ℕ → ℕ
-front_of k t = k + octets_in_front (17000 - k) k t
-
-module _ (t : List ℕ) (k : ℕ) where
-  pub front_on : (x : ℕ) (rest : List ℕ) → k < 17000 → found x rest ≡ octet_in k t → front_of (k + 1) rest ≡ front_of k t
-  unfolding octets_in_front
-  front_on x rest h e =
-      let more : 17000 - k ≡ suc (17000 - (k + 1)) = omega arith in
-      rw (more, ← e) (rw add-one (omega arith))
-
-  pub front_off : k < 17000 → nothing ≡ octet_in k t → k ≡ front_of k t
-  unfolding octets_in_front
-  front_off h e = let more : 17000 - k ≡ suc (17000 - (k + 1)) = omega arith in rw (more, ← e) (omega arith)
-
-  pub front_full : k ≡ 17000 → k ≡ front_of k t
-  unfolding octets_in_front
-  front_full h = let none : 17000 - k ≡ 0 = omega arith in rw none (omega arith)
-
-pub front_end : (k : ℕ) → k ≤ 17000 → k ≡ front_of k []
-front_end k h = go (eqb k 17000) refl
-  where
-    go : (b : Bool) → eqb k 17000 ≡ b → k ≡ front_of k []
-    go true e = front_full [] k (eqb-true k 17000 e)
-    go false e = let more = eqb-false k 17000 e in front_off [] k (omega arith) (sym (no_octet k))
-
--- the line that is broken
-pub broken_at : (t : List ℕ) (k : ℕ) → k ≡ octets_in_front 17000 0 t → k / 17 + 1 ≡ broken_line t
-unfolding broken_line
-broken_at t k e = omega arith

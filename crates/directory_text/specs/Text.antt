@@ -2,7 +2,7 @@
 -- has in the directory call's store. It is a line: its octets in decimal, without leading zeros, parted by single spaces, and one
 -- newline. No entries are the empty text.
 -- Exactly the texts of whole entries are read: `entries_read` and `read_entries` (proofs/Meaning.antt).
-use Rattle.std.specs.Prelude.{ℕ, zero, suc, ◌+◌, ◌*◌, ◌/◌, ◌%◌, ◌≤◌, ◌≡◌, List, [], ◌∷◌, ◌++◌, eqb, length, drop}
+use Rattle.std.specs.Prelude.{ℕ, zero, suc, ◌*◌, ◌%◌, ◌≤◌, ◌≡◌, List, [], ◌∷◌, ◌++◌, eqb, length, drop}
 use Rattle.std.proofs.Math.Option.{Option, none, some}
 use Rattle.laws.specs.When.{when}
 use Rattle.script.specs.Decimal.{decimal}
@@ -63,19 +63,3 @@ octets_from (suc n) k (c ∷ t) = then_octets (octet_in k (c ∷ t)) (λ rest. o
 -- the entries that a whole text is
 unfoldable pub entries_of : List ℕ → Option (List ℕ)
 entries_of t = octets_from (17 * max_entries) 0 t
-
--- ---- where a text is broken
-
--- the octet found, and those that the rest of the text has in front
-abbrev pub then_count : Found ℕ → (List ℕ → ℕ) → ℕ
-then_count nothing more = 0
-then_count (found x rest) more = suc (more rest)
-
--- how many octets stand in front of a text, at most n, of which the first is octet k
-unfoldable pub octets_in_front : ℕ → ℕ → List ℕ → ℕ
-octets_in_front zero k t = 0
-octets_in_front (suc n) k t = then_count (octet_in k t) (λ rest. octets_in_front n (suc k) rest)
-
--- the line, counted from 1, behind the entries and the part of one that stand in front
-unfoldable pub broken_line : List ℕ → ℕ
-broken_line t = octets_in_front (17 * max_entries) 0 t / 17 + 1

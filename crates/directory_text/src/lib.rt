@@ -1,39 +1,28 @@
 // Directory entries as text, and the page to print that they make (document 02, A3): one entry to a line, which
-// is its 17 octets in decimal, without leading zeros, parted by single spaces, and one newline. What is refused is
-// told by its line and field too.
+// is its 17 octets in decimal, without leading zeros, parted by single spaces, and one newline.
 ghost use Rattle.std.specs.Prelude.{◌≡◌, ◌≤◌, length, drop};
 ghost use Rattle.script.specs.Places.{found_at};
 ghost use Rattle.directory_text.specs.Text.{behind, octet_in, entries_of};
-ghost use Rattle.directory_text.specs.Reading.{read_into, Told};
-ghost use Rattle.directory_text.specs.Answers.{text_answer, text_after, text_fault};
+ghost use Rattle.directory_text.specs.Reading.{read_into, InBuffer};
+ghost use Rattle.directory_text.specs.Answers.{text_answer, text_after};
 
 use asdu::FtError;
-use directory_page::{Fault, PrintResult};
+use directory_page::PrintResult;
 use script::read;
 use script::read::Reading;
 use stored::STORED;
 
-// The most lines of a text, each of which is an entry, and the most octets of these.
-pub const MAX_LINES: usize = 1000;
-
-const MAX_OCTETS: usize = STORED * MAX_LINES;
+// The most octets of a text's entries, of which there are a thousand at most.
+const MAX_OCTETS: usize = 17000;
 
 // The largest octet.
 const LARGEST: u32 = 255;
 
-// How many octets the entries of a text have, or on which line it is no text of entries.
+// How many octets the entries of a text have, or that it is no text of entries.
 #[derive(Drop)]
 enum EntriesRead {
     Are(usize),
-    Broken(usize),
-}
-
-// What is refused of a text: a line, counted from 1, that is no entry or is one too many (11); or what is refused of
-// its entries, of which each is on the line of its number.
-#[derive(Drop)]
-pub enum TextFault {
-    Line(usize),
-    Entries(Fault),
+    Nothing,
 }
 
 // What stands behind octet k of a text: a newline behind the last of an entry, else a space.
@@ -66,17 +55,17 @@ fn octet_at(text: &[u8], at: usize, k: usize) -> Reading
 // Reads the entries of a text over the front of a buffer; what a refusal leaves there is open.
 fn read_entries(text: &[u8], octets: &mut [u8]) -> EntriesRead
     requires { 17000 ≤ length octets.old }
-    ensures { (read_into octets.new result ≡ entries_of text.now) × Told octets.new text.now result }
+    ensures { (read_into octets.new result ≡ entries_of text.now) × InBuffer octets.new result }
 {
     let mut at = 0;
     let mut count = 0;
     while at < text.len() {
         if count == MAX_OCTETS {
-            return EntriesRead::Broken(count / STORED + 1);
+            return EntriesRead::Nothing;
         }
         let reading = octet_at(text, at, count);
         let Reading::Number { value, next } = reading else {
-            return EntriesRead::Broken(count / STORED + 1);
+            return EntriesRead::Nothing;
         };
         octets[count] = value as u8;
         at = next;
@@ -85,7 +74,7 @@ fn read_entries(text: &[u8], octets: &mut [u8]) -> EntriesRead
     if count % STORED == 0 {
         return EntriesRead::Are(count);
     }
-    EntriesRead::Broken(count / STORED + 1)
+    EntriesRead::Nothing
 }
 
 // Writes the page of the entries that a text is over the front of a lent page, and answers how many octets it
@@ -96,18 +85,6 @@ pub fn write(text: &[u8], page: &mut [u8]) -> PrintResult
     let mut octets = [0u8; 17000];
     match read_entries(text, &mut octets) {
         EntriesRead::Are(count) => directory_page::write(&octets[..count], page),
-        EntriesRead::Broken(_) => PrintResult::Err(FtError::ScriptMisshapen),
-    }
-}
-
-// What is refused of a text, whatever page it goes to: the line on which it is misshapen; or, of its entries, what
-// `directory_page::find` finds.
-pub fn find(text: &[u8]) -> TextFault
-    ensures { result ≡ text_fault text.now }
-{
-    let mut octets = [0u8; 17000];
-    match read_entries(text, &mut octets) {
-        EntriesRead::Are(count) => TextFault::Entries(directory_page::find(&octets[..count])),
-        EntriesRead::Broken(line) => TextFault::Line(line),
+        EntriesRead::Nothing => PrintResult::Err(FtError::ScriptMisshapen),
     }
 }

@@ -1,4 +1,4 @@
--- What a window is fed from the run of a transfer script: the record of a whole run and of a spent one.
+-- What a window is fed from the run of a transfer script: its record is known beforehand.
 use Prim.Native.Nat.{ℕ, ◌≤◌, ◌<◌, min}
 use mathlib.Core.Bool.{true, false}
 use mathlib.Core.Path.{◌≡◌}
@@ -7,8 +7,7 @@ use native.Mathlib.Omega.{arith}
 use lib.ListN.{length}
 use borrow.Author.Tests.{leb-true}
 use Rattle.twoparty.specs.declared.Settings.{Settings}
-use Rattle.run.specs.Loop.{accepted_count}
-use Rattle.run.specs.Run.{exchange_of, two_party, script_frames}
+use Rattle.run.specs.Run.{two_party, script_frames}
 use Rattle.run.proofs.Running.{Accepted}
 use Rattle.run.proofs.Endings.{run_whole, run_spent}
 use Rattle.ended_run.specs.Record.{in32_bits, record_of}
@@ -24,8 +23,8 @@ module _ (s : Settings) (file damage store : List ℕ) (a : Accepted s file dama
       let all : min 4294967295 (length file) ≡ length file = omega arith in
       rw (run_whole s file damage store a budget h, all)
 
-  -- with a smaller one: the octets that the exchange's Receiver has accepted by then, and the budget's frames
+  -- with a smaller one: the budget's frames, and no octets
   pub spent_recorded : budget < script_frames s file damage
       → record_of (two_party s file damage store budget).result damaged
-      ≡ Ok (record { octets = in32_bits (accepted_count (exchange_of s file damage store budget).receiver); frames = in32_bits budget; damaged = in32_bits damaged; whole = false })
+      ≡ Ok (record { octets = 0; frames = in32_bits budget; damaged = in32_bits damaged; whole = false })
   spent_recorded h = rw (run_spent s file damage store a budget h)

@@ -13,8 +13,8 @@ in32_bits n = min 4294967295 n
 abbrev pub record_with : ℕ → ℕ → ℕ → Bool → Ended
 record_with octets frames damaged whole = record { octets = in32_bits octets; frames = in32_bits frames; damaged = in32_bits damaged; whole = whole }
 
--- The octets held are those that the Receiver has accepted, of a spent run too. A run that was refused never began, and has no record.
+-- Whole: the octets that the Receiver accepted. Spent: the answer names no octets, and none are counted as held. A run that was refused never began, and has no record.
 abbrev pub record_of : RunResult → ℕ → RecordResult
-record_of (R.Whole octets frames) damaged = Ok (record_with octets frames damaged true)
-record_of (R.Spent octets frames) damaged = Ok (record_with octets frames damaged false)
+record_of (R.Whole length frames) damaged = Ok (record_with length frames damaged true)
+record_of (R.Spent frames) damaged = Ok (record_with 0 frames damaged false)
 record_of (R.Err e) damaged = Err e

@@ -27,18 +27,16 @@ fn recorded(octets: usize, frames: usize, damaged: usize, whole: bool) -> Ended
     }
 }
 
-// The record of a run by its answer, with so many damaged sendings. The octets held are those that the
-// Receiver has accepted, of a spent run too.
+// The record of a run by its answer, with so many damaged sendings. A spent run's answer names no octets, and
+// none are counted as held.
 pub fn record_of(res: RunResult, damaged: usize) -> RecordResult
     ensures { result ≡ record_of res damaged }
 {
     match res {
-        RunResult::Whole { octets, frames } => {
-            RecordResult::Ok(recorded(octets, frames, damaged, true))
+        RunResult::Whole { length, frames } => {
+            RecordResult::Ok(recorded(length, frames, damaged, true))
         }
-        RunResult::Spent { octets, frames } => {
-            RecordResult::Ok(recorded(octets, frames, damaged, false))
-        }
+        RunResult::Spent { frames } => RecordResult::Ok(recorded(0, frames, damaged, false)),
         RunResult::Err(error) => RecordResult::Err(error),
     }
 }

@@ -67,7 +67,7 @@ module _ (m : Transfer) where
   later : (k n : ℕ) → (exchanged m k).queue ≡ [] → k ≤ n → exchanged m n ≡ exchanged m k
   later k n over h =
       let more : k + (n - k) ≡ n = omega arith in
-      ap (λ (i : ℕ). exchanged m i) (sym more) ∙ run_add m.parties.file m.headers k (n - k) _ ∙ stays m.parties.file m.headers (n - k) (exchanged m k) over
+      ap (λ (i : ℕ). exchanged m i) (sym more) ∙ run_add m.file m.headers k (n - k) _ ∙ stays m.file m.headers (n - k) (exchanged m k) over
 
   -- a budget that is enough
   pub whole : (budget : ℕ) → all_frames ≤ budget → Transferred m (exchanged m budget)
@@ -84,10 +84,10 @@ module _ (m : Transfer) where
   spent budget h over =
       omega (
         arith,
-        at_most m.parties.file m.headers budget (exchanged m 0),
+        at_most m.file m.headers budget (exchanged m 0),
         ap (λ (e : Exchange). length e.passed) (later budget all_frames over (omega arith)),
         whole_frames all_frames (omega arith),
       )
 
   pub spent_frames : (budget : ℕ) → budget < all_frames → length (exchanged m budget).passed ≡ budget
-  spent_frames budget h = omega (arith, exact m.parties.file m.headers budget (exchanged m 0) (spent budget h))
+  spent_frames budget h = omega (arith, exact m.file m.headers budget (exchanged m 0) (spent budget h))

@@ -34,11 +34,9 @@ use Rattle.provide.specs.declared.Provider.{Provider}
 use Rattle.provide.proofs.Building.{uses}
 use Rattle.provide.proofs.Facts.{request_heard, ours_heard}
 use Rattle.provide.proofs.Making as PM
-use Rattle.acceptance.specs.Closed.{held_of}
-use Rattle.acceptance.specs.declared.Held.{Held}
 use Rattle.receive.specs.Record.{store_agrees, opening, frame_of, awaited, stepped, started}
 use Rattle.receive.specs.declared.ReceiverAnswer.TheVariants as Ra
-use Rattle.receive.specs.Answers.{told_by_frame, on_told, receive}
+use Rattle.receive.specs.Answers.{on_answered, receive}
 use Rattle.receive.specs.declared.Receiver.{Receiver}
 use Rattle.receive.specs.declared.Sent.{Sent}
 use Rattle.receive.specs.declared.Sent.TheVariants as S
@@ -91,88 +89,88 @@ swap p Controlled true = refl
 swap p Controlled false = refl
 
 module _ (m : Transfer) where
-  provider_facts : PM.Made m.parties.provider_station m.parties.object m.parties.name (length m.parties.file) m.parties.provider
-  provider_facts = PM.made m.parties.provider_station m.parties.object m.parties.name (length m.parties.file) m.parties.provider m.parties.provider_is_made
+  provider_facts : PM.Made m.provider_station m.object m.name (length m.file) m.provider
+  provider_facts = PM.made m.provider_station m.object m.name (length m.file) m.provider m.provider_is_made
 
-  receiver_facts : RM.Made m.parties.receiver_station m.parties.object m.parties.name m.parties.receiver
-  receiver_facts = RM.made m.parties.receiver_station m.parties.object m.parties.name m.parties.receiver m.parties.receiver_is_made
+  receiver_facts : RM.Made m.receiver_station m.object m.name m.receiver
+  receiver_facts = RM.made m.receiver_station m.object m.name m.receiver m.receiver_is_made
 
-  pub object_fits : leb m.parties.object (max_ioa m.parties.provider_station.sizes) ≡ true
+  pub object_fits : leb m.object (max_ioa m.provider_station.sizes) ≡ true
   object_fits = provider_facts.object
 
-  pub short : length m.parties.file ≤ 0xFFFFFF
+  pub short : length m.file ≤ 0xFFFFFF
   short = provider_facts.short
 
-  pub settings : settled m.parties.provider_station ≡ true
+  pub settings : settled m.provider_station ≡ true
   settings = provider_facts.settings
 
   -- the Provider, until it has ended
   abbrev pub P : Provider
-  P = fresh_provider m.parties.provider_station m.parties.object m.parties.name (length m.parties.file)
+  P = fresh_provider m.provider_station m.object m.name (length m.file)
 
-  pub provider_fresh : m.parties.provider ≡ P
+  pub provider_fresh : m.provider ≡ P
   provider_fresh = provider_facts.fresh
 
-  agrees : file_agrees P m.parties.file ≡ true
-  agrees = rw provider_fresh at (PM.made_agrees m.parties.provider_station m.parties.object m.parties.name m.parties.file m.parties.provider provider_facts)
+  agrees : file_agrees P m.file ≡ true
+  agrees = rw provider_fresh at (PM.made_agrees m.provider_station m.object m.name m.file m.provider provider_facts)
 
-  provider_hears : (f : Frame) (h : Header) → Sound m.parties.receiver_station f h → receiver_side f ≡ true → ioa_of f ≡ m.parties.object
-      → values_in_range m.parties.provider_station.sizes f [] ≡ true → provide P m.parties.file h U.Nothing (D.Frame f) [] ≡ on_request P f
+  provider_hears : (f : Frame) (h : Header) → Sound m.receiver_station f h → receiver_side f ≡ true → ioa_of f ≡ m.object
+      → values_in_range m.provider_station.sizes f [] ≡ true → provide P m.file h U.Nothing (D.Frame f) [] ≡ on_request P f
   unfolding when
   provider_hears f h sound side object fits =
-      request_heard P m.parties.file h U.Nothing f [] agrees refl
-      (admits m.parties.provider_station m.parties.receiver_station f h [] sound (sym m.widths) settings (rw object object_fits) fits
-      (rw side (swap m.parties.provider_station m.parties.provider_station.role false ∙ m.provider_serves)) ∙ rw side)
+      request_heard P m.file h U.Nothing f [] agrees refl
+      (admits m.provider_station m.receiver_station f h [] sound (sym m.widths) settings (rw object object_fits) fits
+      (rw side (swap m.provider_station m.provider_station.role false ∙ m.provider_serves)) ∙ rw side)
 
   -- a request of the Receiver's
   pub hears_sc : (h : Header) (nos : Nos) (action : ℕ) → leb action 15 ≡ true
-      → Sound m.parties.receiver_station (F.Sc m.parties.object m.parties.name nos (record { action = action; error = 0 })) h
-      → provide P m.parties.file h U.Nothing (D.Frame (F.Sc m.parties.object m.parties.name nos (record { action = action; error = 0 }))) [] ≡ on_sc P nos (record { action = action; error = 0 })
+      → Sound m.receiver_station (F.Sc m.object m.name nos (record { action = action; error = 0 })) h
+      → provide P m.file h U.Nothing (D.Frame (F.Sc m.object m.name nos (record { action = action; error = 0 }))) [] ≡ on_sc P nos (record { action = action; error = 0 })
   unfolding scq_in_range is_ours when
   hears_sc h nos action small sound =
-      provider_hears (F.Sc m.parties.object m.parties.name nos (record { action = action; error = 0 })) h sound refl refl (simp small)
-      ∙ ours_heard P _ (simp (eq-eqb m.parties.object m.parties.object refl, eq-eqb m.parties.name.value m.parties.name.value refl))
+      provider_hears (F.Sc m.object m.name nos (record { action = action; error = 0 })) h sound refl refl (simp small)
+      ∙ ours_heard P _ (simp (eq-eqb m.object m.object refl, eq-eqb m.name.value m.name.value refl))
 
   -- an acknowledgement
   pub hears_ack : (h : Header) (nos : Nos) (action : ℕ) → leb action 15 ≡ true
-      → Sound m.parties.receiver_station (F.Ack m.parties.object m.parties.name nos (record { action = action; error = 0 })) h
-      → provide P m.parties.file h U.Nothing (D.Frame (F.Ack m.parties.object m.parties.name nos (record { action = action; error = 0 }))) [] ≡ on_ack P nos (record { action = action; error = 0 })
+      → Sound m.receiver_station (F.Ack m.object m.name nos (record { action = action; error = 0 })) h
+      → provide P m.file h U.Nothing (D.Frame (F.Ack m.object m.name nos (record { action = action; error = 0 }))) [] ≡ on_ack P nos (record { action = action; error = 0 })
   unfolding afq_in_range is_ours when
   hears_ack h nos action small sound =
-      provider_hears (F.Ack m.parties.object m.parties.name nos (record { action = action; error = 0 })) h sound refl refl (simp small)
-      ∙ ours_heard P _ (simp (eq-eqb m.parties.object m.parties.object refl, eq-eqb m.parties.name.value m.parties.name.value refl))
+      provider_hears (F.Ack m.object m.name nos (record { action = action; error = 0 })) h sound refl refl (simp small)
+      ∙ ours_heard P _ (simp (eq-eqb m.object m.object refl, eq-eqb m.name.value m.name.value refl))
 
   -- the Receiver, until it has ended
-  abbrev pub R : Sent → Length → Held → Receiver
-  R s l h =
-      record { procedure = m.parties.receiver_station; ioa = m.parties.object; nof = m.parties.name; sent = s; length = l; held = h; done = false }
+  abbrev pub R : Sent → Length → ℕ → ℕ → Receiver
+  R s l kept staged =
+      record { procedure = m.receiver_station; ioa = m.object; nof = m.name; sent = s; length = l; kept = kept; staged = staged; done = false }
 
-  pub receiver_fresh : m.parties.receiver ≡ R S.Nothing Unknown (held_of [] [])
+  pub receiver_fresh : m.receiver ≡ R S.Nothing Unknown 0 0
   receiver_fresh = receiver_facts.fresh
 
-  pub store_agrees_lem : (s : Sent) (l : Length) (h : Held) (store : List ℕ) → h.kept + h.staged ≤ length store → store_agrees (R s l h) store ≡ true
+  pub holds : (s : Sent) (l : Length) (kept staged : ℕ) (store : List ℕ) → kept + staged ≤ length store → store_agrees (R s l kept staged) store ≡ true
   unfolding store_agrees when
-  store_agrees_lem s l h store room = simp (receiver_facts.settings, receiver_facts.object, le-leb (h.kept + h.staged) (length store) room)
+  holds s l kept staged store room = simp (receiver_facts.settings, receiver_facts.object, le-leb (kept + staged) (length store) room)
 
   -- an answer of the Provider's
-  pub receiver_hears : (s : Sent) (l : Length) (held : Held) (store payload : List ℕ) (f : Frame) (h : Header) → held.kept + held.staged ≤ length store
-      → Sound m.parties.provider_station f h → receiver_side f ≡ false → ioa_of f ≡ m.parties.object → values_in_range m.parties.provider_station.sizes f payload ≡ true
-      → answers_to (frame_of m.parties.object m.parties.name s) f ≡ true
-      → receive (R s l held) store h U.Nothing (D.Frame f) payload ≡ on_told (R s l held) store payload (told_by_frame f)
+  pub receiver_hears : (s : Sent) (l : Length) (kept staged : ℕ) (store payload : List ℕ) (f : Frame) (h : Header) → kept + staged ≤ length store
+      → Sound m.provider_station f h → receiver_side f ≡ false → ioa_of f ≡ m.object → values_in_range m.provider_station.sizes f payload ≡ true
+      → answers_to (frame_of m.object m.name s) f ≡ true
+      → receive (R s l kept staged) store h U.Nothing (D.Frame f) payload ≡ on_answered (R s l kept staged) store payload f
   unfolding on_answer matched awaited when
-  receiver_hears s l held store payload f h room sound side object fits right =
-      answer_heard (R s l held) store h U.Nothing f payload (store_agrees_lem s l held store room) refl
+  receiver_hears s l kept staged store payload f h room sound side object fits right =
+      answer_heard (R s l kept staged) store h U.Nothing f payload (holds s l kept staged store room) refl
       (simp (
-        admits m.parties.receiver_station m.parties.provider_station f h payload sound m.widths receiver_facts.settings (rw object receiver_facts.object)
-            (rw m.widths fits) (rw side (swap m.parties.receiver_station m.parties.receiver_station.role true ∙ m.receiver_serves)),
+        admits m.receiver_station m.provider_station f h payload sound m.widths receiver_facts.settings (rw object receiver_facts.object)
+            (rw m.widths fits) (rw side (swap m.receiver_station m.receiver_station.role true ∙ m.receiver_serves)),
         side,
         right,
       ))
 
   -- the Receiver's start
-  pub starts : started (R S.Nothing Unknown (held_of [] [])) m.store
-      ≡ stepped (R opening Unknown (held_of [] [])) Ra.Send
+  pub starts : started (R S.Nothing Unknown 0 0) m.store
+      ≡ stepped (R opening Unknown 0 0) Ra.Send
   unfolding when
   starts =
-      started_is (R S.Nothing Unknown (held_of [] [])) m.store (store_agrees_lem S.Nothing Unknown (held_of [] []) m.store (omega arith))
-      ∙ simp (uses m.parties.receiver_station m.parties.receiver_station.role true m.receiver_serves, m.receiver_serves)
+      started_is (R S.Nothing Unknown 0 0) m.store (holds S.Nothing Unknown 0 0 m.store (omega arith))
+      ∙ simp (uses m.receiver_station m.receiver_station.role true m.receiver_serves, m.receiver_serves)

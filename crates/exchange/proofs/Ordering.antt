@@ -12,10 +12,10 @@ use Rattle.exchange.proofs.Theorem.{all_pass}
 use Rattle.exchange.proofs.Budget as B
 
 module _ (m : Transfer) where
-  along_at : (n k : ℕ) (e : Exchange) → Along m n e → k < n → InOrder m (run m.parties.file m.headers k e)
+  along_at : (n k : ℕ) (e : Exchange) → Along m n e → k < n → InOrder m (run m.file m.headers k e)
   along_at zero k e along h = absurd (omega arith)
   along_at (suc n) zero e along h = along.0
-  along_at (suc n) (suc k) e along h = along_at n k (step m.parties.file m.headers e) along.1 (omega arith)
+  along_at (suc n) (suc k) e along h = along_at n k (step m.file m.headers e) along.1 (omega arith)
 
   -- with no frame left none begins
   none_begins : (e : Exchange) → e.queue ≡ [] → InOrder m e

@@ -49,19 +49,16 @@ unfoldable pub script : Transfer
 unfolding provider_made receiver_made sizes_right within addressed address_right max_ioa max_common_address serves when
 script =
     record {
-      parties =
-          record {
-            provider_station = station Controlled;
-            receiver_station = station Controlling;
-            object = 100;
-            name = record { value = 7 };
-            file = script_file;
-            provider = fresh_provider (station Controlled) 100 (record { value = 7 }) 2;
-            provider_is_made = refl;
-            receiver = fresh_receiver (station Controlling) 100 (record { value = 7 });
-            receiver_is_made = refl;
-          };
+      provider_station = station Controlled;
+      receiver_station = station Controlling;
+      object = 100;
+      name = record { value = 7 };
+      file = script_file;
       store = 0 ∷ 0 ∷ 9 ∷ [];
+      provider = fresh_provider (station Controlled) 100 (record { value = 7 }) 2;
+      provider_is_made = refl;
+      receiver = fresh_receiver (station Controlling) 100 (record { value = 7 });
+      receiver_is_made = refl;
       roles = refl;
       widths = refl;
       provider_serves = refl;

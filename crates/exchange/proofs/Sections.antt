@@ -26,7 +26,6 @@ use Rattle.provide.specs.declared.ProviderStep.{ProviderStep}
 use Rattle.requests.specs.declared.ProviderAnswer.{ProviderAnswer}
 use Rattle.provide.proofs.Facts.{requests_section, next_section_lem, no_section, file_accepted}
 use Rattle.sections.proofs.SectionLaws.{enough, section_from}
-use Rattle.acceptance.specs.Closed.{held_of}
 use Rattle.receive.proofs.Facts as RF
 use Rattle.receive.specs.Record.{with_state, awaited}
 use Rattle.receive.specs.Answers.{on_section_ready, on_close, to_send}
@@ -47,11 +46,11 @@ use Rattle.exchange.proofs.Sendings.{limit, Heard, packets, sent_payloads, sendi
 module _ (m : Transfer) where
   -- what was asked is answered by the section that is ready
   abbrev pub Awaits : Sent → Nos → Type 0
-  Awaits s nos = (x : Lof) → answers_to (asking m s) (F.SectionReady m.parties.object m.parties.name nos x (record { value = 0; not_ready = false })) ≡ true
+  Awaits s nos = (x : Lof) → answers_to (asking m s) (F.SectionReady m.object m.name nos x (record { value = 0; not_ready = false })) ≡ true
 
   -- ---- one section, from its announcement to its acceptance
 
-  module _ (wide : 0 < limit m) (l : Length) (nos : Nos) (acc o : List ℕ) (is : octets_of (P m) m.parties.file nos ≡ o) (small : length o ≤ 0xFFFFFF)
+  module _ (wide : 0 < limit m) (l : Length) (nos : Nos) (acc o : List ℕ) (is : octets_of (P m) m.file nos ≡ o) (small : length o ≤ 0xFFFFFF)
       (x : Sendings) (bad : AllDamaged (limit m) o x.damaged) (good : Intact (limit m) o x.intact) where
     -- its last sending
     intact_passes : (radio : List Noise) (s : Sent) (rest : List ℕ) (t : List Passing) (u : ProviderAnswer) (v : ReceiverAnswer) → Heard m s nos → length o ≤ length rest
@@ -67,7 +66,7 @@ module _ (m : Transfer) where
         → (s : Sent) (rest : List ℕ) (t : List Passing) (u : ProviderAnswer) (v : ReceiverAnswer) → sendings_before nos.value t ≡ 0 → Awaits s nos → length o ≤ length rest
         → ((t' : List Passing) (u' : ProviderAnswer) → Adds nos.value t t' (1 + (1 + length x.damaged) * (div_ceil (length o) (limit m) + 1)) (1 + length x.damaged) (1 + length x.damaged)
         → Ends m (Ex m (ask m (ack m 3 nos) ∷ []) (ack m 3 nos) l (acc ++ o) [] (drop (length o) rest) radio t' u' Ra.Send))
-        → Ends m (Ex m (tell m (section_ready (P m) m.parties.file nos) ∷ []) s l acc [] rest (x.damaged ++ (x.intact ∷ radio)) t u v)
+        → Ends m (Ex m (tell m (section_ready (P m) m.file nos) ∷ []) s l acc [] rest (x.damaged ++ (x.intact ∷ radio)) t u v)
     unfolding on_section_ready to_send awaited when
     section_passes radio own s rest t u v before awaits fits k =
         takes m nos.value s l acc [] rest _ t u v _ []
@@ -80,10 +79,10 @@ module _ (m : Transfer) where
         intact_passes radio s' rest' t₃ u' v' heard (rw e fits) (λ t₄ d₄. rw b (k t₄ u' (omega arith)))))))
 
   abbrev pub size : ℕ
-  size = section_length (length m.parties.file)
+  size = section_length (length m.file)
 
   abbrev pub count : ℕ
-  count = section_count (length m.parties.file)
+  count = section_count (length m.file)
 
   abbrev pub number : ℕ → Nos
   number j = record { value = suc j }
@@ -98,11 +97,11 @@ module _ (m : Transfer) where
 
   awaits_next : (nos nos' : Nos) → Awaits (ack m 3 nos) nos'
   unfolding answers_to names_agree ack_answered one_of when
-  awaits_next nos nos' x = simp (eq-eqb m.parties.object m.parties.object refl, eq-eqb m.parties.name.value m.parties.name.value refl)
+  awaits_next nos nos' x = simp (eq-eqb m.object m.object refl, eq-eqb m.name.value m.name.value refl)
 
-  closes_file_lem : (nos : Nos) (q : Lsq) (c : Chs) → answers_to (asking m (ack m 3 nos)) (F.LastSection m.parties.object m.parties.name nos q c) ≡ true
+  closes_file_lem : (nos : Nos) (q : Lsq) (c : Chs) → answers_to (asking m (ack m 3 nos)) (F.LastSection m.object m.name nos q c) ≡ true
   unfolding answers_to names_agree ack_answered one_of when
-  closes_file_lem nos q c = simp (eq-eqb m.parties.object m.parties.object refl, eq-eqb m.parties.name.value m.parties.name.value refl)
+  closes_file_lem nos q c = simp (eq-eqb m.object m.object refl, eq-eqb m.name.value m.name.value refl)
 
   -- ---- the file's close, its acknowledgement, and the end
 
@@ -112,21 +111,21 @@ module _ (m : Transfer) where
       record {
         queue = ask m (ack m 1 nos) ∷ [];
         provider = P m;
-        receiver = with_state (R m S.Nothing (Known 0) (held_of [] [])) (ack m 1 nos) (Known (length m.parties.file)) (held_of m.parties.file []) true;
-        store = m.parties.file ++ rest;
+        receiver = with_state (R m S.Nothing (Known 0) 0 0) (ack m 1 nos) (Known (length m.file)) (length m.file) 0 true;
+        store = m.file ++ rest;
         radio = radio;
         passed = t;
         provider_said = u;
-        receiver_said = Ra.Complete (length m.parties.file);
+        receiver_said = Ra.Complete (length m.file);
       }
 
   ends : (nos : Nos) (rest : List ℕ) (radio : List Noise) (u : ProviderAnswer) (t : List Passing)
-      → nos ≡ record { value = count } → rest ≡ drop (length m.parties.file) m.store
+      → nos ≡ record { value = count } → rest ≡ drop (length m.file) m.store
       → sent_by by_provider t ≡ provider_frames m → sent_by by_receiver t + 1 ≡ receiver_frames m → Ends m (closed nos rest radio u t)
   ends nos rest radio u t last behind na mb =
       let heard = hears_ack m (m.headers t (ask m (ack m 1 nos))) nos 1 refl (m.sound t (ask m (ack m 1 nos))) ∙ file_accepted (P m) nos 0 in
       back m (ask m (ack m 1 nos)) (closed nos rest radio u t) _ (subst (λ (z : ProviderStep). AnswersInOrder m t radio z.answer) (sym heard) tt)
-      (ap (provided m.parties.file (closed nos rest radio u t) (ask m (ack m 1 nos)) []) heard) refl (
+      (ap (provided m.file (closed nos rest radio u t) (ask m (ack m 1 nos)) []) heard) refl (
         0,
         omega (arith, sends t (ask m (ack m 1 nos))),
         tt,
@@ -143,23 +142,23 @@ module _ (m : Transfer) where
       )
 
   finish : (nos : Nos) (rest : List ℕ) (radio : List Noise) (t : List Passing) (u : ProviderAnswer) (v : ReceiverAnswer)
-      → nos ≡ record { value = count } → rest ≡ drop (length m.parties.file) m.store
+      → nos ≡ record { value = count } → rest ≡ drop (length m.file) m.store
       → sent_by by_provider t + 1 ≡ provider_frames m → sent_by by_receiver t + 1 ≡ receiver_frames m
-      → Ends m (Ex m (tell m (close_frame (P m) nos 1 m.parties.file) ∷ []) (ack m 3 nos) (Known (length m.parties.file)) m.parties.file [] rest radio t u v)
+      → Ends m (Ex m (tell m (close_frame (P m) nos 1 m.file) ∷ []) (ack m 3 nos) (Known (length m.file)) m.file [] rest radio t u v)
   unfolding on_close to_send awaited when
   finish nos rest radio t u v last behind na mb =
-      takes m nos.value (ack m 3 nos) (Known (length m.parties.file)) m.parties.file [] rest radio t u v _ [] (closed nos rest radio u) refl refl refl (closes_file_lem nos _ _)
-      (simp (RF.file_accepted (R m (ack m 3 nos) (Known (length m.parties.file)) (held_of m.parties.file [])) m.parties.file [] rest refl nos (record { value = checksum m.parties.file }) refl))
+      takes m nos.value (ack m 3 nos) (Known (length m.file)) m.file [] rest radio t u v _ [] (closed nos rest radio u) refl refl refl (closes_file_lem nos _ _)
+      (simp (RF.file_accepted (R m (ack m 3 nos) (Known (length m.file)) (length m.file) 0) m.file [] rest refl refl nos (record { value = checksum m.file }) refl))
       (λ t' d. ends nos rest radio u t' last behind (omega arith) (omega arith))
 
   -- ---- the sections in turn: acc is accepted, rem is left of the file, and section j + 1 is announced
 
-  octets_at_lem : (j : ℕ) (rem : List ℕ) → drop (j * size) m.parties.file ≡ rem → octets_of (P m) m.parties.file (number j) ≡ take size rem
-  octets_at_lem j rem e = section_from size j m.parties.file ∙ ap (take size) e
+  octets_at_lem : (j : ℕ) (rem : List ℕ) → drop (j * size) m.file ≡ rem → octets_of (P m) m.file (number j) ≡ take size rem
+  octets_at_lem j rem e = section_from size j m.file ∙ ap (take size) e
 
-  last_fits : (j : ℕ) (rem : List ℕ) → suc j ≡ count → drop (j * size) m.parties.file ≡ rem → length rem ≤ size
+  last_fits : (j : ℕ) (rem : List ℕ) → suc j ≡ count → drop (j * size) m.file ≡ rem → length rem ≤ size
   last_fits j rem e is =
-      omega (arith, simp length-drop at (ap length is), enough (length m.parties.file), ap (λ (k : ℕ). k * size) e)
+      omega (arith, simp length-drop at (ap length is), enough (length m.file), ap (λ (k : ℕ). k * size) e)
 
   own_section : (j : ℕ) (x : Sendings) (xs : List Sendings) → drop j m.radio ≡ x ∷ xs → drop (suc j - 1) m.radio ≡ x ∷ xs
   own_section j x xs at = let one_less : suc j - 1 ≡ j = omega arith in rw one_less at
@@ -186,10 +185,10 @@ module _ (m : Transfer) where
 
   -- what is behind the file in the store
   abbrev beyond : List ℕ
-  beyond = drop (length m.parties.file) m.store
+  beyond = drop (length m.file) m.store
 
   module _ (wide : 0 < limit m) (j : ℕ) (x : Sendings) (acc rem rest : List ℕ) (t : List Passing) (u : ProviderAnswer) (v : ReceiverAnswer) (s : Sent)
-      (is : drop (j * size) m.parties.file ≡ rem) (kept : acc ++ rem ≡ m.parties.file) (fits : length rem ≤ length rest) (behind : drop (length rem) rest ≡ beyond)
+      (is : drop (j * size) m.file ≡ rem) (kept : acc ++ rem ≡ m.file) (fits : length rem ≤ length rest) (behind : drop (length rem) rest ≡ beyond)
       (before : sendings_before (suc j) t ≡ 0) (awaits : Awaits s (number j)) (bad : AllDamaged (limit m) (take size rem) x.damaged) (good : Intact (limit m) (take size rem) x.intact) where
     small : length (take size rem) ≤ 0xFFFFFF
     small = simp length-take (omega (arith, simp length-append at (ap length kept), short m))
@@ -201,20 +200,20 @@ module _ (m : Transfer) where
     -- a section that is followed by another
     one_passes : (xs : List Sendings) → drop j m.radio ≡ x ∷ xs → suc j < count
         → ((t' : List Passing) (u' : ProviderAnswer) (v' : ReceiverAnswer) → Adds (suc j) t t' (1 + mine) (2 + length x.damaged) (1 + length x.damaged)
-        → Ends m (Ex m (tell m (section_ready (P m) m.parties.file (number (suc j))) ∷ []) (ack m 3 (number j)) (Known (length m.parties.file)) (acc ++ take size rem) []
+        → Ends m (Ex m (tell m (section_ready (P m) m.file (number (suc j))) ∷ []) (ack m 3 (number j)) (Known (length m.file)) (acc ++ take size rem) []
         (drop (length (take size rem)) rest) (in_order xs) t' u' v'))
-        → Ends m (Ex m (tell m (section_ready (P m) m.parties.file (number j)) ∷ []) s (Known (length m.parties.file)) acc [] rest (x.damaged ++ (x.intact ∷ in_order xs)) t u v)
+        → Ends m (Ex m (tell m (section_ready (P m) m.file (number j)) ∷ []) s (Known (length m.file)) acc [] rest (x.damaged ++ (x.intact ∷ in_order xs)) t u v)
     one_passes xs at more k =
-        section_passes wide (Known (length m.parties.file)) (number j) acc (take size rem) (octets_at_lem j rem is) small x bad good (in_order xs) (meets_own j x xs at) s rest t u v before awaits (simp length-take (omega arith))
-        (λ t₁ u' d₁. asked_ack m (suc j) (ack m 3 (number j)) (Known (length m.parties.file)) (acc ++ take size rem) [] (drop (length (take size rem)) rest) (in_order xs) t₁ u' _ (number j) 3 (SectionReady (number (suc j))) 0 refl (next j more) tt (asks_none (suc j) (asking m (ack m 3 (number j))) refl)
+        section_passes wide (Known (length m.file)) (number j) acc (take size rem) (octets_at_lem j rem is) small x bad good (in_order xs) (meets_own j x xs at) s rest t u v before awaits (simp length-take (omega arith))
+        (λ t₁ u' d₁. asked_ack m (suc j) (ack m 3 (number j)) (Known (length m.file)) (acc ++ take size rem) [] (drop (length (take size rem)) rest) (in_order xs) t₁ u' _ (number j) 3 (SectionReady (number (suc j))) 0 refl (next j more) tt (asks_none (suc j) (asking m (ack m 3 (number j))) refl)
         (λ t₂ d₂. k t₂ _ _ (omega arith)))
 
     -- the last one
     last_passes : drop j m.radio ≡ x ∷ [] → suc j ≡ count → sent_by by_provider t + (2 + mine) ≡ provider_frames m → sent_by by_receiver t + (3 + length x.damaged) ≡ receiver_frames m
-        → Ends m (Ex m (tell m (section_ready (P m) m.parties.file (number j)) ∷ []) s (Known (length m.parties.file)) acc [] rest (x.damaged ++ (x.intact ∷ [])) t u v)
+        → Ends m (Ex m (tell m (section_ready (P m) m.file (number j)) ∷ []) s (Known (length m.file)) acc [] rest (x.damaged ++ (x.intact ∷ [])) t u v)
     last_passes at e na mb =
-        section_passes wide (Known (length m.parties.file)) (number j) acc (take size rem) (octets_at_lem j rem is) small x bad good [] (meets_own j x [] at) s rest t u v before awaits (simp length-take (omega arith))
-        (λ t₁ u' d₁. asked_ack m (suc j) (ack m 3 (number j)) (Known (length m.parties.file)) (acc ++ take size rem) [] (drop (length (take size rem)) rest) [] t₁ u' _ (number j) 3 (FileClose (number j)) 0 refl (none_next j e) tt (asks_none (suc j) (asking m (ack m 3 (number j))) refl)
+        section_passes wide (Known (length m.file)) (number j) acc (take size rem) (octets_at_lem j rem is) small x bad good [] (meets_own j x [] at) s rest t u v before awaits (simp length-take (omega arith))
+        (λ t₁ u' d₁. asked_ack m (suc j) (ack m 3 (number j)) (Known (length m.file)) (acc ++ take size rem) [] (drop (length (take size rem)) rest) [] t₁ u' _ (number j) 3 (FileClose (number j)) 0 refl (none_next j e) tt (asks_none (suc j) (asking m (ack m 3 (number j))) refl)
         (λ t₂ d₂. rw (take_all size rem (last_fits j rem e is), kept)
         (finish (number j) (drop (length rem) rest) [] t₂ _ _ (ap (λ (n : ℕ). record { value = n }) e) behind (omega arith) (omega arith))))
 
@@ -222,12 +221,12 @@ module _ (m : Transfer) where
   unfoldable pub Pass : ℕ → ℕ → List Sendings → Type 0
   Pass c j xs =
       (acc rem rest : List ℕ) (t : List Passing) (u : ProviderAnswer) (v : ReceiverAnswer) (s : Sent)
-      → drop j m.radio ≡ xs → j + suc c ≡ count → drop (j * size) m.parties.file ≡ rem → acc ++ rem ≡ m.parties.file → length rem ≤ length rest → drop (length rem) rest ≡ beyond
+      → drop j m.radio ≡ xs → j + suc c ≡ count → drop (j * size) m.file ≡ rem → acc ++ rem ≡ m.file → length rem ≤ length rest → drop (length rem) rest ≡ beyond
       → sendings_from (suc j) t ≡ 0 → Awaits s (number j)
       → DamagedThenIntact (limit m) (parts (suc c) size rem) xs
       → sent_by by_provider t + (suc c + sending_frames (limit m) (parts (suc c) size rem) xs) + 1 ≡ provider_frames m
       → sent_by by_receiver t + (2 * suc c + damaged_sendings xs) + 1 ≡ receiver_frames m
-      → Ends m (Ex m (tell m (section_ready (P m) m.parties.file (number j)) ∷ []) s (Known (length m.parties.file)) acc [] rest (in_order xs) t u v)
+      → Ends m (Ex m (tell m (section_ready (P m) m.file (number j)) ∷ []) s (Known (length m.file)) acc [] rest (in_order xs) t u v)
 
   none_said : (c j : ℕ) → Pass c j []
   unfolding Pass
@@ -242,7 +241,7 @@ module _ (m : Transfer) where
   last_one wide j x acc rem rest t u v s at e is kept fits behind before awaits hit na mb =
       last_passes wide j x acc rem rest t u v s is kept fits behind (omega (arith, sendings_split (suc j) t)) awaits hit.0 hit.1 at (omega arith) (omega arith) (omega arith)
 
-  later : (j : ℕ) (rem : List ℕ) → drop (j * size) m.parties.file ≡ rem → drop (suc j * size) m.parties.file ≡ drop size rem
+  later : (j : ℕ) (rem : List ℕ) → drop (j * size) m.file ≡ rem → drop (suc j * size) m.file ≡ drop size rem
   later j rem is = simp (suc-mul, ← is, drop-drop)
 
   cut_length : (n : ℕ) (a : List ℕ) → length (take n a) + length (drop n a) ≡ length a

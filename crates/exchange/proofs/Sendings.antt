@@ -27,7 +27,6 @@ use Rattle.requests.specs.declared.Reply.TheVariants.{Section}
 use Rattle.requests.specs.declared.ProviderAnswer.{ProviderAnswer}
 use Rattle.requests.specs.declared.ProviderAnswer.TheVariants as PA
 use Rattle.receive.specs.Record.{awaited}
-use Rattle.acceptance.specs.Closed.{held_of}
 use Rattle.receive.specs.Answers.{on_close, to_send}
 use Rattle.receive.specs.declared.Length.{Length}
 use Rattle.receive.specs.declared.ReceiverAnswer.{ReceiverAnswer}
@@ -62,12 +61,12 @@ over_behind n a rest h =
 
 module _ (m : Transfer) where
   abbrev pub limit : ℕ
-  limit = segment_limit m.parties.provider_station.sizes
+  limit = segment_limit m.provider_station.sizes
 
   -- what was asked is answered by this section's segments and its close
   pub record Heard (s : Sent) (nos : Nos) : Type 0 where
-    pub segment : (x : Los) → answers_to (asking m s) (F.Segment m.parties.object m.parties.name nos x) ≡ true
-    pub close : (q : Lsq) (c : Chs) → answers_to (asking m s) (F.LastSection m.parties.object m.parties.name nos q c) ≡ true
+    pub segment : (x : Los) → answers_to (asking m s) (F.Segment m.object m.name nos x) ≡ true
+    pub close : (q : Lsq) (c : Chs) → answers_to (asking m s) (F.LastSection m.object m.name nos q c) ≡ true
 
   -- segments, and the frame behind them
   abbrev behind : Nos → List (List ℕ) → Frame → List Packet
@@ -149,7 +148,7 @@ module _ (m : Transfer) where
           takes m nos.value s l acc sec rest radio t u v _ []
           (λ t'. Ex m (ask m (ack m 4 nos) ∷ []) (ack m 4 nos) l acc [] (sec ++ rest) radio t' u Ra.Send)
           refl refl refl (heard.close _ _)
-          (simp (section_dropped (R m s l (held_of acc sec)) acc sec rest refl nos (record { value = checksum o }) differs))
+          (simp (section_dropped (R m s l (length acc) (length sec)) acc sec rest refl refl nos (record { value = checksum o }) differs))
 
       -- the same sum: it is accepted
       pub accepts : checksum sec ≡ checksum o
@@ -161,23 +160,23 @@ module _ (m : Transfer) where
           takes m nos.value s l acc sec rest radio t u v _ []
           (λ t'. Ex m (ask m (ack m 3 nos) ∷ []) (ack m 3 nos) l (acc ++ sec) [] rest radio t' u Ra.Send)
           refl refl refl (heard.close _ _)
-          (simp (section_accepted (R m s l (held_of acc sec)) acc sec rest refl nos (record { value = checksum o }) equals, append_assoc))
+          (simp (section_accepted (R m s l (length acc) (length sec)) acc sec rest refl refl nos (record { value = checksum o }) equals, length-append, append_assoc))
 
   -- a section request and a negative acknowledgement are answered by the section
   pub heard_call : (nos : Nos) → Heard (sc m 6 nos) nos
   unfolding answers_to names_agree called_section sc_answered section_answered one_of when
   heard_call nos =
       record {
-        segment = λ x. simp (eq-eqb m.parties.object m.parties.object refl, eq-eqb m.parties.name.value m.parties.name.value refl, eq-eqb nos.value nos.value refl);
-        close = λ q c. simp (eq-eqb m.parties.object m.parties.object refl, eq-eqb m.parties.name.value m.parties.name.value refl, eq-eqb nos.value nos.value refl);
+        segment = λ x. simp (eq-eqb m.object m.object refl, eq-eqb m.name.value m.name.value refl, eq-eqb nos.value nos.value refl);
+        close = λ q c. simp (eq-eqb m.object m.object refl, eq-eqb m.name.value m.name.value refl, eq-eqb nos.value nos.value refl);
       }
 
   heard_refusal : (nos : Nos) → Heard (ack m 4 nos) nos
   unfolding answers_to names_agree ack_answered one_of when
   heard_refusal nos =
       record {
-        segment = λ x. simp (eq-eqb m.parties.object m.parties.object refl, eq-eqb m.parties.name.value m.parties.name.value refl);
-        close = λ q c. simp (eq-eqb m.parties.object m.parties.object refl, eq-eqb m.parties.name.value m.parties.name.value refl);
+        segment = λ x. simp (eq-eqb m.object m.object refl, eq-eqb m.name.value m.name.value refl);
+        close = λ q c. simp (eq-eqb m.object m.object refl, eq-eqb m.name.value m.name.value refl);
       }
 
   -- with `done` of the damaged noises met, the section's next sending meets the next of its noises
@@ -185,7 +184,7 @@ module _ (m : Transfer) where
   MeetsEach nos damaged good radio =
       (done left : List Noise) → done ++ left ≡ damaged → (k : ℕ) → k ≡ length done → Meets m nos.value k (left ++ (good ∷ radio))
 
-  module _ (wide : 0 < limit) (l : Length) (nos : Nos) (acc o : List ℕ) (is : octets_of (P m) m.parties.file nos ≡ o) where
+  module _ (wide : 0 < limit) (l : Length) (nos : Nos) (acc o : List ℕ) (is : octets_of (P m) m.file nos ≡ o) where
     -- a damaged sending passes: nothing is kept of it, and the next one begins
     damaged_one : (radio : List Noise) (x : Noise) (s : Sent) (rest : List ℕ) (t : List Passing) (u : ProviderAnswer) (v : ReceiverAnswer)
         → ((k : ℕ) → k ≡ sendings_before nos.value t → Meets m nos.value k radio) → Heard s nos → Damaged limit o x → length o ≤ length rest

@@ -24,8 +24,7 @@ use Rattle.requests.specs.declared.ProviderAnswer.{ProviderAnswer}
 use Rattle.requests.specs.declared.ProviderAnswer.TheVariants as PA
 use Rattle.provide.proofs.Building.{limit_most}
 use Rattle.receive.specs.Record.{frame_of}
-use Rattle.acceptance.specs.Closed.{held_of}
-use Rattle.receive.specs.Answers.{told_by_frame, on_told, to_send}
+use Rattle.receive.specs.Answers.{on_answered, to_send}
 use Rattle.receive.specs.declared.Length.{Length}
 use Rattle.receive.specs.declared.Sent.{Sent}
 use Rattle.receive.specs.declared.Sent.TheVariants as S
@@ -65,13 +64,13 @@ module _ (m : Transfer) where
   -- along k steps the sendings are in order
   abbrev pub Along : ℕ → Exchange → Type 0
   Along zero e = Unit {0}
-  Along (suc k) e = InOrder m e × Along k (step m.parties.file m.headers e)
+  Along (suc k) e = InOrder m e × Along k (step m.file m.headers e)
 
   -- the exchange ends well once all frames have passed
   abbrev pub Ends : Exchange → Type 0
   Ends e =
       (k : ℕ) × (k + (sent_by by_provider e.passed + sent_by by_receiver e.passed) ≡ provider_frames m + receiver_frames m)
-      × Along k e × Transferred m (run m.parties.file m.headers k e)
+      × Along k e × Transferred m (run m.file m.headers k e)
 
   -- an exchange under way: the store is what is accepted, what is under way, and the rest; t was passed
   abbrev pub Ex : List Passing → Sent → Length → List ℕ → List ℕ → List ℕ → List Noise → List Passing → ProviderAnswer → ReceiverAnswer → Exchange
@@ -79,7 +78,7 @@ module _ (m : Transfer) where
       record {
         queue = q;
         provider = P m;
-        receiver = R m s l (held_of acc sec);
+        receiver = R m s l (length acc) (length sec);
         store = acc ++ (sec ++ rest);
         radio = radio;
         passed = t;
@@ -95,7 +94,7 @@ module _ (m : Transfer) where
   ack action nos = S.Acknowledgement action nos
 
   abbrev pub asking : Sent → Frame
-  asking s = frame_of m.parties.object m.parties.name s
+  asking s = frame_of m.object m.name s
 
   abbrev pub ask : Sent → Passing
   ask s = untouched by_receiver (bare (asking s))
@@ -109,17 +108,17 @@ module _ (m : Transfer) where
 
   -- what the Provider's reply puts into the queue, and the sendings to come after it
   abbrev pub queued : Reply → List Noise → List Passing
-  queued r radio = on_the_way radio (is_section r) (replies (P m) m.parties.file r)
+  queued r radio = on_the_way radio (is_section r) (replies (P m) m.file r)
 
   abbrev pub left : Reply → List Noise → List Noise
   left r radio = sendings_left (is_section r) radio
 
-  pub back : (x : Passing) (e e' : Exchange) → InOrder m e → step m.parties.file m.headers e ≡ e' → e'.passed ≡ e.passed ++ (x ∷ []) → Ends e' → Ends e
+  pub back : (x : Passing) (e e' : Exchange) → InOrder m e → step m.file m.headers e ≡ e' → e'.passed ≡ e.passed ++ (x ∷ []) → Ends e' → Ends e
   back x e e' own does kept (k, frames, along, ends) = (
     suc k,
     omega (arith, rw kept at frames, sends e.passed x, one_side x.sender),
     (own, subst (λ (z : Exchange). Along k z) (sym does) along),
-    subst (λ (z : Exchange). Transferred m (run m.parties.file m.headers k z)) (sym does) ends,
+    subst (λ (z : Exchange). Transferred m (run m.file m.headers k z)) (sym does) ends,
   )
 
   -- each step, with the sendings of section n that its frame asks for
@@ -137,7 +136,7 @@ module _ (m : Transfer) where
       asked_sc nos action r asked small does own asks k =
           let heard = hears_sc m (m.headers t (ask (sc action nos))) nos action small (m.sound t (ask (sc action nos))) ∙ does in
           back (ask (sc action nos)) _ _ (subst (λ (z : ProviderStep). AnswersInOrder m t radio z.answer) (sym heard) own)
-          (ap (provided m.parties.file (Ex (ask (sc action nos) ∷ []) s l acc sec rest radio t u v) (ask (sc action nos)) [])
+          (ap (provided m.file (Ex (ask (sc action nos) ∷ []) s l acc sec rest radio t u v) (ask (sc action nos)) [])
           heard) refl
           (k _ (adds n t (ask (sc action nos)) asked asks))
 
@@ -150,21 +149,21 @@ module _ (m : Transfer) where
       asked_ack nos action r asked small does own asks k =
           let heard = hears_ack m (m.headers t (ask (ack action nos))) nos action small (m.sound t (ask (ack action nos))) ∙ does in
           back (ask (ack action nos)) _ _ (subst (λ (z : ProviderStep). AnswersInOrder m t radio z.answer) (sym heard) own)
-          (ap (provided m.parties.file (Ex (ask (ack action nos) ∷ []) s l acc sec rest radio t u v) (ask (ack action nos)) [])
+          (ap (provided m.file (Ex (ask (ack action nos) ∷ []) s l acc sec rest radio t u v) (ask (ack action nos)) [])
           heard) refl
           (k _ (adds n t (ask (ack action nos)) asked asks))
 
       -- the Receiver takes a frame that is no segment
-      pub takes : (f : Frame) (q : List Passing) (e : List Passing → Exchange) → receiver_side f ≡ false → ioa_of f ≡ m.parties.object
-          → values_in_range m.parties.provider_station.sizes f [] ≡ true → answers_to (asking s) f ≡ true
+      pub takes : (f : Frame) (q : List Passing) (e : List Passing → Exchange) → receiver_side f ≡ false → ioa_of f ≡ m.object
+          → values_in_range m.provider_station.sizes f [] ≡ true → answers_to (asking s) f ≡ true
           → taken (Ex (tell f ∷ q) s l acc sec rest radio t u v) (tell f) q
-          (on_told (R m s l (held_of acc sec)) (acc ++ (sec ++ rest)) [] (told_by_frame f)) ≡ e (t ++ (tell f ∷ []))
+          (on_answered (R m s l (length acc) (length sec)) (acc ++ (sec ++ rest)) [] f) ≡ e (t ++ (tell f ∷ []))
           → ((t' : List Passing) → Adds n t t' 1 0 0 → Ends (e t'))
           → Ends (Ex (tell f ∷ q) s l acc sec rest radio t u v)
       takes f q e side object fits right does k =
           back (tell f) _ (e (t ++ (tell f ∷ []))) tt
           (ap (taken (Ex (tell f ∷ q) s l acc sec rest radio t u v) (tell f) q)
-          (receiver_hears m s l _ _ [] f _ room (m.sound t (tell f)) side object fits right) ∙ does) (sym (ap (λ (z : Exchange). z.passed) does))
+          (receiver_hears m s l _ _ _ [] f _ room (m.sound t (tell f)) side object fits right) ∙ does) (sym (ap (λ (z : Exchange). z.passed) does))
           (k _ (adds n t (tell f) 0 (refl, refl)))
 
       -- a segment that is lost
@@ -174,7 +173,7 @@ module _ (m : Transfer) where
       loses nos o q k = back (hit nos o lost) _ _ tt refl refl (k _ (adds n t (hit nos o lost) 0 (refl, refl)))
 
       -- one that arrives, as x
-      pub gains : (nos : Nos) (o x : List ℕ) (q : List Passing) → 1 ≤ length o → length o ≤ segment_limit m.parties.provider_station.sizes
+      pub gains : (nos : Nos) (o x : List ℕ) (q : List Passing) → 1 ≤ length o → length o ≤ segment_limit m.provider_station.sizes
           → length x ≡ length o → length o ≤ length rest → answers_to (asking s) (segment_packet (P m) nos o).frame ≡ true
           → ((t' : List Passing) → Adds n t t' 1 0 0 → Ends (Ex q s l acc (sec ++ x) (drop (length x) rest) radio t' u Ra.Running))
           → Ends (Ex (hit nos o (arrives x) ∷ q) s l acc sec rest radio t u v)
@@ -182,13 +181,13 @@ module _ (m : Transfer) where
       gains nos o x q some short alike fits right k =
           back (hit nos o (arrives x)) _ (Ex q s l acc (sec ++ x) (drop (length x) rest) radio (t ++ (hit nos o (arrives x) ∷ [])) u Ra.Running) tt
           (ap (taken (Ex (hit nos o (arrives x) ∷ q) s l acc sec rest radio t u v) (hit nos o (arrives x)) q)
-          (receiver_hears m s l _ _ x _ _ room (m.sound t (hit nos o (arrives x))) refl refl
+          (receiver_hears m s l _ _ _ x _ _ room (m.sound t (hit nos o (arrives x))) refl refl
           (simp (
             alike,
             eq-eqb (length o) (length o) refl,
             le-leb 1 (length o) some,
-            le-leb (length o) 240 (le_trans short (limit_most m.parties.provider_station.sizes)),
-            le-leb (length o) (segment_limit m.parties.provider_station.sizes) short,
+            le-leb (length o) 240 (le_trans short (limit_most m.provider_station.sizes)),
+            le-leb (length o) (segment_limit m.provider_station.sizes) short,
           )) right)
-          ∙ simp (segment_taken (R m s l (held_of acc sec)) acc sec rest refl x (omega arith), append-nil)) refl
+          ∙ simp (segment_taken (R m s l (length acc) (length sec)) acc sec rest refl refl x (omega arith), length-append sec x, append-nil)) refl
           (k _ (adds n t (hit nos o (arrives x)) 0 (refl, refl)))

@@ -14,13 +14,15 @@ use Rattle.requests.specs.declared.ProviderAnswer.{ProviderAnswer}
 use Rattle.requests.specs.declared.ProviderAnswer.TheVariants as P
 use Rattle.requests.specs.declared.Reply.{Reply}
 use Rattle.requests.specs.declared.Reply.TheVariants.{Nothing, FileReady, SectionReady, Section, FileClose}
-use Rattle.provide.specs.Replies.{Packet, bare, provider_sends}
+use Rattle.provide.specs.Replies.{Packet, bare, replies}
 use Rattle.provide.specs.Requests.{provide}
 use Rattle.receive.specs.declared.Receiver.{Receiver}
 use Rattle.receive.specs.declared.ReceiverAnswer.{ReceiverAnswer}
 use Rattle.receive.specs.declared.ReceiverStep.{ReceiverStep}
+use Rattle.receive.specs.declared.ToSend.{ToSend}
+use Rattle.receive.specs.declared.ToSend.TheVariants as T
 use Rattle.receive.specs.Record.{started}
-use Rattle.receive.specs.Answers.{Outcome, receive, frames_by_receiver}
+use Rattle.receive.specs.Answers.{Outcome, receive, to_send}
 
 -- ---- a frame on its way
 
@@ -42,10 +44,22 @@ pub record Passing : Type 0 where
 abbrev pub untouched : Side → Packet → Passing
 untouched s x = record { sender = s; packet = x; fate = arrives x.payload }
 
--- ---- what the Receiver sends, which has no payload
+-- ---- what the machines send
+
+abbrev pub provider_sends : Provider → List ℕ → ProviderAnswer → List Packet
+provider_sends p file (P.Running r) = replies p file r
+provider_sends p file P.Complete = []
+provider_sends p file (P.Deactivated q) = []
+provider_sends p file (P.FileRejected q) = []
+provider_sends p file (P.Refused cause mirror) = []
+provider_sends p file (P.Err e) = []
+
+abbrev pub packets_of : ToSend → List Packet
+packets_of T.Nothing = []
+packets_of (T.Frame f) = bare f ∷ []
 
 abbrev pub receiver_sends : ReceiverStep → List Packet
-receiver_sends s = map bare (frames_by_receiver s)
+receiver_sends s = packets_of (to_send s)
 
 -- ---- the radio
 

@@ -1,4 +1,3 @@
-pub mod Parties
 pub mod Exchange
 pub mod Stations
 pub mod Transfer

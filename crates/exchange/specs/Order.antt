@@ -74,7 +74,7 @@ abbrev pub HandedInOrder : Transfer → Exchange → Passing → Fate → Side �
 HandedInOrder m e x lost side = Unit {0}
 HandedInOrder m e x (arrives beside) by_provider = Unit {0}
 HandedInOrder m e x (arrives beside) by_receiver =
-    AnswersInOrder m e.passed e.radio (provide e.provider m.parties.file (m.headers e.passed x) U.Nothing (D.Frame x.packet.frame) beside).answer
+    AnswersInOrder m e.passed e.radio (provide e.provider m.file (m.headers e.passed x) U.Nothing (D.Frame x.packet.frame) beside).answer
 
 abbrev pub QueueInOrder : Transfer → Exchange → List Passing → Type 0
 QueueInOrder m e [] = Unit {0}

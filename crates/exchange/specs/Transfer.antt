@@ -2,6 +2,7 @@
 use Rattle.std.specs.Prelude.{ℕ, ◌+◌, ◌*◌, ◌≤◌, ◌<◌, ◌≡◌, ◌≢◌, true, false, List, [], ◌∷◌, ◌++◌, length, drop}
 use Rattle.lists.specs.Parts.{div_ceil}
 use Rattle.asdu.specs.Sizes.{segment_limit, max_common_address}
+use Rattle.asdu.specs.declared.Nof.{Nof}
 use Rattle.asdu.specs.declared.Header.{Header}
 use Rattle.frame.specs.declared.Frame.{Frame}
 use Rattle.frame.specs.Frames.{type_of, cause_of}
@@ -10,15 +11,17 @@ use Rattle.ft.specs.Directions.{other_role}
 use Rattle.ft.specs.Admission.{serves}
 use Rattle.ft.specs.declared.FileTransferProcedure.{FileTransferProcedure}
 use Rattle.sections.specs.Sections.{sections, segments, section_count}
-use Rattle.provide.specs.Record.{ended}
+use Rattle.provide.specs.Record.{provider_made, ended}
+use Rattle.provide.specs.declared.Provider.{Provider}
+use Rattle.provide.specs.declared.ProviderResult.TheVariants as PM
 use Rattle.requests.specs.declared.ProviderAnswer.TheVariants as P
-use Rattle.acceptance.specs.Closed.{held_of}
-use Rattle.receive.specs.Record.{with_state}
+use Rattle.receive.specs.Record.{receiver_made, with_state}
+use Rattle.receive.specs.declared.Receiver.{Receiver}
+use Rattle.receive.specs.declared.ReceiverResult.TheVariants as RM
 use Rattle.receive.specs.declared.Sent.{Sent}
 use Rattle.receive.specs.declared.Sent.TheVariants as S
 use Rattle.receive.specs.declared.Length.TheVariants.{Known}
 use Rattle.receive.specs.declared.ReceiverAnswer.TheVariants as R
-use Rattle.exchange.specs.Parties.{Parties}
 use Rattle.exchange.specs.Exchange.{Side, by_provider, by_receiver, Passing, Fate, lost, arrives, Noise, Exchange, Headers, run, begun, sent_by}
 
 -- ---- a sound header of a frame that station s sends
@@ -86,26 +89,36 @@ in_order (x ∷ xs) = x.damaged ++ (x.intact ∷ in_order xs)
 -- ---- the premises
 
 pub record Transfer : Type 0 where
-  -- two stations and one file
-  pub parties : Parties
-  -- the Receiver's store, with whatever it holds
+  -- the two stations
+  pub provider_station : FileTransferProcedure
+  pub receiver_station : FileTransferProcedure
+  -- the file's object address and name, the same for both
+  pub object : ℕ
+  pub name : Nof
+  -- the Provider's file, and the Receiver's store with whatever it holds
+  pub file : List ℕ
   pub store : List ℕ
+  -- both makings accept: every width, every file of 0 to 16,777,215 octets
+  pub provider : Provider
+  pub provider_is_made : provider_made provider_station object name (length file) ≡ PM.Ok provider
+  pub receiver : Receiver
+  pub receiver_is_made : receiver_made receiver_station object name ≡ RM.Ok receiver
   -- the stations have opposite roles
-  pub roles : parties.receiver_station.role ≡ other_role parties.provider_station.role
+  pub roles : receiver_station.role ≡ other_role provider_station.role
   -- and the same widths
-  pub widths : parties.receiver_station.sizes ≡ parties.provider_station.sizes
+  pub widths : receiver_station.sizes ≡ provider_station.sizes
   -- both select the direction in which the Provider sends and the Receiver asks
-  pub provider_serves : serves parties.provider_station parties.provider_station.role false ≡ true
-  pub receiver_serves : serves parties.receiver_station parties.receiver_station.role true ≡ true
+  pub provider_serves : serves provider_station provider_station.role false ≡ true
+  pub receiver_serves : serves receiver_station receiver_station.role true ≡ true
   -- the store is at least as long as the file
-  pub room : length parties.file ≤ length store
+  pub room : length file ≤ length store
   -- each frame goes under any sound header: it may depend on the frame and on all that passed before
   pub headers : Headers
   pub sound : (before : List Passing) (x : Passing)
-      → Sound (sender_of parties.provider_station parties.receiver_station x.sender) x.packet.frame (headers before x)
+      → Sound (sender_of provider_station receiver_station x.sender) x.packet.frame (headers before x)
   -- each section is sent, damaged, any number of times, and then intact
   pub radio : List Sendings
-  pub damage : DamagedThenIntact (segment_limit parties.provider_station.sizes) (sections parties.file) radio
+  pub damage : DamagedThenIntact (segment_limit provider_station.sizes) (sections file) radio
 
 -- ---- the counts
 
@@ -129,32 +142,32 @@ abbrev pub receiver_count : List ℕ → List Sendings → ℕ
 receiver_count file radio = 3 + 2 * section_count (length file) + damaged_sendings radio
 
 abbrev pub provider_frames : Transfer → ℕ
-provider_frames m = provider_count (segment_limit m.parties.provider_station.sizes) m.parties.file m.radio
+provider_frames m = provider_count (segment_limit m.provider_station.sizes) m.file m.radio
 
 abbrev pub receiver_frames : Transfer → ℕ
-receiver_frames m = receiver_count m.parties.file m.radio
+receiver_frames m = receiver_count m.file m.radio
 
 -- ---- the conclusion
 
 -- the exchange of these premises, after so many steps
 abbrev pub exchanged : Transfer → ℕ → Exchange
-exchanged m steps = run m.parties.file m.headers steps (begun m.parties.provider m.parties.receiver m.store (in_order m.radio))
+exchanged m steps = run m.file m.headers steps (begun m.provider m.receiver m.store (in_order m.radio))
 
 -- what the Receiver sends last: the file is accepted
 abbrev pub accepted : Transfer → Sent
-accepted m = S.Acknowledgement 1 (record { value = section_count (length m.parties.file) })
+accepted m = S.Acknowledgement 1 (record { value = section_count (length m.file) })
 
 pub record Transferred (m : Transfer) (e : Exchange) : Type 0 where
   -- no frame is left
   pub over : e.queue ≡ []
   -- the Provider ended as on AFQ 1, and nothing else of its record changed
   pub provider_complete : e.provider_said ≡ P.Complete
-  pub provider_ended : e.provider ≡ ended m.parties.provider
+  pub provider_ended : e.provider ≡ ended m.provider
   -- the Receiver names the file's length, and ended holding it
-  pub receiver_complete : e.receiver_said ≡ R.Complete (length m.parties.file)
-  pub receiver_ended : e.receiver ≡ with_state m.parties.receiver (accepted m) (Known (length m.parties.file)) (held_of m.parties.file []) true
+  pub receiver_complete : e.receiver_said ≡ R.Complete (length m.file)
+  pub receiver_ended : e.receiver ≡ with_state m.receiver (accepted m) (Known (length m.file)) (length m.file) 0 true
   -- the store begins with the file, and behind it is as it was
-  pub stored : e.store ≡ m.parties.file ++ drop (length m.parties.file) m.store
+  pub stored : e.store ≡ m.file ++ drop (length m.file) m.store
   -- the frames passed, counted for each sender
   pub provider_sent : sent_by by_provider e.passed ≡ provider_frames m
   pub receiver_sent : sent_by by_receiver e.passed ≡ receiver_frames m

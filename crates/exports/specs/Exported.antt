@@ -30,12 +30,12 @@ run_of cause common object ca ioa nof controlling file damage store budget = two
 
 -- 0 for a whole run, 255 for a spent one, else document 01's number
 abbrev pub end_number : RunResult → ℕ
-end_number (Whole octets frames) = 0
-end_number (Spent octets frames) = 255
+end_number (Whole length frames) = 0
+end_number (Spent frames) = 255
 end_number (Err e) = number_of e
 
 -- the frames that passed; none of a refused run
 abbrev pub end_frames : RunResult → ℕ
-end_frames (Whole octets frames) = frames
-end_frames (Spent octets frames) = frames
+end_frames (Whole length frames) = frames
+end_frames (Spent frames) = frames
 end_frames (Err e) = 0

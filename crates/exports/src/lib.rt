@@ -1,14 +1,6 @@
-// The library for programs in C and Rust on x86-64 Linux: `rt staticlib exports` writes it. Each function is on
-// numbers and slices, and is proved and total like every public entry. A slice is two arguments, its address and
-// its length. In C:
-//     uint8_t saqwinku_checksum(const uint8_t *octets, size_t octets_len, uint8_t so_far);
-//     uint8_t saqwinku_run(
-//         uint8_t cause_octets, uint8_t common_address_octets, uint8_t information_object_address_octets,
-//         uint16_t common_address, uint32_t ioa, uint16_t nof, bool controlling,
-//         const uint8_t *file, size_t file_len, const uint8_t *damage, size_t damage_len,
-//         uint8_t *store, size_t store_len, size_t budget, size_t *frames);
-// The proofs take for granted what this language checks of its own callers, and nothing checks of C: a pointer is
-// valid for its length; what is written, `store` and `frames`, overlaps no other buffer; a bool is 0 or 1.
+// The library for programs in C and Rust: `rt staticlib exports` writes it. Each function is on numbers and
+// slices, and is proved and total like every public entry. A slice is two arguments, its address and its
+// length.
 ghost use Rattle.std.specs.Prelude.{◌≡◌};
 ghost use Rattle.checksum.specs.Checksum.{sum_after};
 ghost use Rattle.exports.specs.Exported.{role_of, settings_of, run_of, end_number, end_frames};
@@ -72,7 +64,7 @@ fn end_frames(res: RunResult) -> usize
 {
     match res {
         RunResult::Whole { frames, .. } => frames,
-        RunResult::Spent { frames, .. } => frames,
+        RunResult::Spent { frames } => frames,
         RunResult::Err(_) => 0,
     }
 }

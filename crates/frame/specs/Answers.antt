@@ -1,4 +1,4 @@
--- Which frame answers which: the file transfer of IEC 60870-5-5, 6.12, as 60870-5-101, 7.4.11, selects it, with 60870-5-104, 7.11, and for the query of a log 8.9.
+-- Which frame answers which: IEC 60870-5-101, 7.4.11, with 60870-5-104, 7.11, and for the query of a log 8.9.
 use Rattle.std.specs.Prelude.{ℕ, Bool, true, false, eqb}
 use Rattle.laws.specs.When.{when, ◌and◌, ◌or◌}
 use Rattle.asdu.specs.Codes.{F_FR_NA_1, F_SR_NA_1, F_LS_NA_1, F_SG_NA_1, F_DR_TA_1, CALL_DIRECTORY, SELECT_FILE, REQUEST_FILE, SELECT_SECTION, REQUEST_SECTION, SECTION_POSITIVE, SECTION_NEGATIVE}

@@ -2,4 +2,3 @@ pub mod Directions
 pub mod Procedure
 pub mod Admission
 pub mod Building
-pub mod Input

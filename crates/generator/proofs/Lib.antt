@@ -3,4 +3,3 @@ pub mod Fronts
 pub mod Answers
 pub mod TwoCalls
 pub mod Named
-pub mod Filled

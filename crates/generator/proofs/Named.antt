@@ -18,7 +18,7 @@ unfolding non_empty_sections
 within n j h =
     let least = length-least n in
     let below = ceil_least n (section_length n) (omega arith) in
-    let most : suc j * section_length n ≤ div_ceil n (section_length n) * section_length n = mul-le-mul_right (section_length n) (omega arith) in
+    let most : suc j * section_length n ≤ div_ceil n (section_length n) * section_length n = mul-le-mul_right (section_length n) h in
     omega arith
 
 module _ (file : List ℕ) where
@@ -50,8 +50,8 @@ module _ (file : List ℕ) where
     entries_have [] = refl
     entries_have (x ∷ xs) = simp (whens, entry_has x, entries_have xs)
 
--- so many entries as a list has places for, from any state; an empty file's has none
-pub entries_named : (file : List ℕ) (places s : ℕ) → all_have_octets (section_length (length file)) file (entries_from (length file) (places_filled (length file) places) s) ≡ true
+-- the entries of a damage list with any number of places, from any state; an empty file's has none
+pub damage_named : (file : List ℕ) (places s : ℕ) → all_have_octets (section_length (length file)) file (entries_from (length file) (places_filled (length file) places) s) ≡ true
 unfolding entries_from places_filled when
-entries_named [] places s = refl
-entries_named (x ∷ xs) places s = entries_have (x ∷ xs) (omega arith) (octets_from (places_filled (length (x ∷ xs)) places) s)
+damage_named [] places s = refl
+damage_named (x ∷ xs) places s = entries_have (x ∷ xs) (omega arith) (octets_from (places_filled (length (x ∷ xs)) places) s)

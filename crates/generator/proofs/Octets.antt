@@ -1,6 +1,11 @@
--- The sequence of octets: its length, each of it, and its parts.
-use Rattle.std.proofs.Common.{◌≡◌, ℕ, zero, suc, ◌+◌, ◌<◌, ◌∷◌, ◌++◌, length, get_or, refl, ap, arith}
+-- The sequence of octets: its first four, its length, each of it, and its parts.
+use Rattle.std.proofs.Common.{◌≡◌, ℕ, zero, suc, ◌+◌, ◌<◌, [], ◌∷◌, ◌++◌, length, get_or, refl, ap, arith}
 use Rattle.generator.specs.Sequence.{stepped, octet_of, state_after, octets_from}
+
+-- document 02's four octets
+pub first_four : octets_from 4 0 ≡ 60 ∷ 71 ∷ 209 ∷ 170 ∷ []
+unfolding stepped octet_of
+first_four = refl
 
 pub octets_length : (n s : ℕ) → length (octets_from n s) ≡ n
 octets_length zero s = refl

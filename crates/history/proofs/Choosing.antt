@@ -1,4 +1,4 @@
--- Two tests together; a list with something in it; one of two lists joined.
+-- Two tests together, and one of two lists joined.
 use mathlib.Core.Path.{◌≡◌, sym, ◌∙◌}
 use mathlib.Core.Logic.{◌⊎◌, inl, inr}
 use mathlib.Core.Bool.{Bool, true, false, true≢false}
@@ -12,9 +12,6 @@ both_so a b p q = rw p q
 
 pub never : (b : Bool) → b ≡ false → b ≡ true → ⊥
 never b f t = true≢false (sym t ∙ f)
-
-pub cons_not_nil : {A : Type 0} (x : A) (xs : List A) → (x ∷ xs) ≡ [] → ⊥
-cons_not_nil x xs e = let z : true ≡ false = cc in true≢false z
 
 -- ---- one of two lists joined is one of the first or of the second
 

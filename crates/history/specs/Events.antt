@@ -1,11 +1,19 @@
--- The history of a transfer on any channel, which document 01 leaves open: one Provider, one Receiver, and calls of any kind, in any order and any number.
+-- The history of a transfer on any channel, which document 01 leaves open: one Provider, one Receiver, and events of any kind, in any order and any number.
 use Rattle.std.specs.Prelude.{ℕ, List, [], ◌∷◌, ◌++◌}
-use Rattle.provide.specs.History.{ProviderCall, announces, to_provider, provides, ProviderTrace, provider_next}
+use Rattle.frame.specs.declared.Frame.{Frame}
+use Rattle.provide.specs.Replies.{announced}
+use Rattle.provide.specs.declared.Provider.{Provider}
+use Rattle.provide.specs.declared.ProviderStep.{ProviderStep}
 use Rattle.requests.specs.declared.ProviderAnswer.{ProviderAnswer}
 use Rattle.requests.specs.declared.ProviderAnswer.TheVariants as P
-use Rattle.receive.specs.History.{ReceiverCall, receiver_called, ReceiverTrace, receiver_next}
+use Rattle.provide.specs.declared.FrameResult.{FrameResult}
+use Rattle.provide.specs.declared.FrameResult.TheVariants.{Ok, Err}
+use Rattle.receive.specs.Record.{started}
+use Rattle.receive.specs.Answers.{Outcome, leaving}
+use Rattle.receive.specs.declared.Receiver.{Receiver}
 use Rattle.receive.specs.declared.ReceiverAnswer.{ReceiverAnswer}
 use Rattle.receive.specs.declared.ReceiverAnswer.TheVariants as R
+use Rattle.history.specs.Calls.{Input, provides, receives, frames_by_provider, frames_by_receiver}
 
 -- ---- completions
 
@@ -35,34 +43,70 @@ receiver_completion (R.Err e) = []
 
 -- ---- events
 
--- a call of the one machine or of the other
 pub data Event : Type 0 where
-  at_provider : ProviderCall → Event
-  at_receiver : ReceiverCall → Event
+  -- the Receiver is started; the Provider announces its file
+  starts announces : Event
+  -- anything at all is handed to the Provider, or to the Receiver
+  to_provider to_receiver : Input → Event
 
 pub record State : Type 0 where
-  -- the records and the store, what was answered and what was sent
-  pub providing : ProviderTrace
-  pub receiving : ReceiverTrace
+  -- the records and the store, as the last calls left them
+  pub provider : Provider
+  pub receiver : Receiver
+  pub store : List ℕ
+  -- the frames that each has sent so far, in order
+  pub from_provider : List Frame
+  pub from_receiver : List Frame
   -- the completions so far, in order
   pub completions : List Completion
 
+-- after a call of the Provider
+abbrev pub provider_called : List ℕ → State → ProviderStep → State
+provider_called file s t =
+    record {
+      provider = t.provider;
+      receiver = s.receiver;
+      store = s.store;
+      from_provider = s.from_provider ++ frames_by_provider file t;
+      from_receiver = s.from_receiver;
+      completions = s.completions ++ provider_completion t.answer;
+    }
+
+-- of the Receiver
+abbrev pub receiver_called : State → Outcome → State
+receiver_called s o =
+    record {
+      provider = s.provider;
+      receiver = o.step.receiver;
+      store = o.store;
+      from_provider = s.from_provider;
+      from_receiver = s.from_receiver ++ frames_by_receiver o.step;
+      completions = s.completions ++ receiver_completion o.step.answer;
+    }
+
+-- the frame of an announcement that is not refused
+abbrev pub announced_frames : FrameResult → List Frame
+announced_frames (Ok f) = f ∷ []
+announced_frames (Err e) = []
+
+-- of the announcement, which leaves the record as it is
+abbrev pub file_announced : State → FrameResult → State
+file_announced s a =
+    record {
+      provider = s.provider;
+      receiver = s.receiver;
+      store = s.store;
+      from_provider = s.from_provider ++ announced_frames a;
+      from_receiver = s.from_receiver;
+      completions = s.completions;
+    }
+
 -- the state that an event leaves; the Provider is lent this file at every call
 abbrev pub next : List ℕ → State → Event → State
-next file s (at_provider announces) =
-    record { providing = provider_next file s.providing announces; receiving = s.receiving; completions = s.completions }
-next file s (at_provider (to_provider x)) =
-    record {
-      providing = provider_next file s.providing (to_provider x);
-      receiving = s.receiving;
-      completions = s.completions ++ provider_completion (provides s.providing.provider file x).answer;
-    }
-next file s (at_receiver c) =
-    record {
-      providing = s.providing;
-      receiving = receiver_next s.receiving c;
-      completions = s.completions ++ receiver_completion (receiver_called s.receiving.receiver s.receiving.store c).step.answer;
-    }
+next file s starts = receiver_called s (leaving s.store (started s.receiver s.store))
+next file s announces = file_announced s (announced s.provider file)
+next file s (to_provider x) = provider_called file s (provides s.provider file x)
+next file s (to_receiver x) = receiver_called s (receives s.receiver s.store x)
 
 -- the state that a history leaves
 abbrev pub state_after : List ℕ → State → List Event → State

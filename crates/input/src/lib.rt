@@ -1,22 +1,20 @@
 // The lines of a list that `replay` plays, as they are read from a file: where each begins and stops is
-// kept among numbers of their own.
+// kept among the numbers.
 use words::{Numbers, at, keep, put, text, write};
 
 // What has been read of a list. A line that is as long cannot be read.
 pub type Input = [u8; 65536];
 
 // The place of how many lines were read.
-pub const LINES: u8 = 0;
+pub const LINES: u8 = 3;
 
 // The places of where in the input a line begins and stops, where the next one begins, and where the
 // input ends.
-pub const BEGIN: u8 = LINES + 1;
+pub const BEGIN: u8 = 4;
 
-pub const STOP: u8 = BEGIN + 1;
+const NEXT: u8 = 6;
 
-const NEXT: u8 = STOP + 1;
-
-const END: u8 = NEXT + 1;
+const END: u8 = 7;
 
 // ---- Lines
 

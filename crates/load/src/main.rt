@@ -1,7 +1,15 @@
 // The load program (document 02, A2): three numbers on standard input, the generator's state, the file's octets
 // and the damage list's entries; the transfer script of that load on standard output, for the transfer program.
+use asdu::FtError;
 use libc::{STDIN_FILENO, STDOUT_FILENO};
 use load_script::TextResult;
+
+// `refused` and its number, as the transfer program says it.
+fn refused(error: FtError) {
+    io::write_all(STDOUT_FILENO, b"refused ");
+    io::print_decimal(STDOUT_FILENO, error.number() as u64);
+    io::write_all(STDOUT_FILENO, b"\n");
+}
 
 // Prints the first octets of a buffer.
 fn print(text: &[u8; 65536], length: usize) {
@@ -15,6 +23,6 @@ fn main() {
     let mut out = io::large_buffer();
     match load_script::write(&input[..length], &mut out) {
         TextResult::Ok(count) => print(&out, count),
-        TextResult::Err(error) => console::refused(error),
+        TextResult::Err(error) => refused(error),
     }
 }

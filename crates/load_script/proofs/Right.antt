@@ -17,7 +17,7 @@ use Rattle.script.proofs.Meaning.{right_read}
 use Rattle.generator.specs.Sequence.{stepped, octet_of, octets_from}
 use Rattle.generator.specs.Filling.{non_empty_sections, naming, places_filled, entries_from}
 use Rattle.generator.proofs.Answers.{all_sections, some_non_empty}
-use Rattle.generator.proofs.Named.{entries_named}
+use Rattle.generator.proofs.Named.{damage_named}
 use Rattle.load_script.specs.Load.{Within, file_of, after_file, damage_of, script_for}
 use Rattle.load_script.specs.declared.Load.{Load}
 use Rattle.load_script.proofs.Filling.{file_length, damage_length, places_most}
@@ -66,4 +66,4 @@ unfolding damage_of
 load_damage_named l =
     let s : ℕ = (after_file l).state in
     ap (λ (n : ℕ). all_have_octets (section_length (length (file_of l))) (file_of l) (entries_from n (places_filled n l.entries) s)) (file_length l)
-    ∙ entries_named (file_of l) l.entries s
+    ∙ damage_named (file_of l) l.entries s

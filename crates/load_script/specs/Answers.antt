@@ -1,9 +1,8 @@
 -- What writing a load's script answers, and what it leaves in the buffer (document 02, A2).
-use Rattle.std.specs.Prelude.{ℕ, Bool, List, leb, length}
+use Rattle.std.specs.Prelude.{ℕ, List, length}
 use Rattle.std.proofs.Math.Option.{Option, none, some}
-use Rattle.laws.specs.When.{when, unless, ◌and◌}
 use Rattle.asdu.specs.declared.FtError.TheVariants.{ScriptMisshapen}
-use Rattle.script.specs.Script.{max_file, max_damage, text_of}
+use Rattle.script.specs.Script.{text_of}
 use Rattle.script.specs.Answers.{over}
 use Rattle.load_script.specs.Load.{script_for}
 use Rattle.load_script.specs.declared.Load.{Load}
@@ -11,21 +10,6 @@ use Rattle.load_script.specs.declared.LoadRead.{LoadRead}
 use Rattle.load_script.specs.declared.LoadRead.TheVariants.{Is, Nothing}
 use Rattle.load_script.specs.declared.TextResult.{TextResult}
 use Rattle.load_script.specs.declared.TextResult.TheVariants.{Ok, Err}
-
--- ---- of three numbers
-
--- within a script's limits: else 11. The state may be any number of 32 bits
-unfoldable pub load_right : Load → Bool
-load_right l = leb l.octets max_file and leb l.entries max_damage
-
-unfoldable pub load_answer : Load → TextResult
-load_answer l = unless (load_right l) (Err ScriptMisshapen) (Ok (length (text_of (script_for l))))
-
--- the script's text over the front of the buffer; a refusal leaves it as it came in
-unfoldable pub load_after : Load → List ℕ → List ℕ
-load_after l there = when (load_right l) (over (text_of (script_for l)) there) there
-
--- ---- of a text
 
 -- what the reader hands on
 unfoldable pub read_as : Option Load → LoadRead
@@ -37,6 +21,7 @@ unfoldable pub answer_of : Option Load → TextResult
 answer_of (some l) = Ok (length (text_of (script_for l)))
 answer_of none = Err ScriptMisshapen
 
+-- the script's text over the front of the buffer; a refusal leaves it as it came in
 unfoldable pub text_after : Option Load → List ℕ → List ℕ
 text_after (some l) there = over (text_of (script_for l)) there
 text_after none there = there

@@ -7,7 +7,7 @@ ghost use Rattle.script.specs.Script.{text_of};
 ghost use Rattle.script.specs.Answers.{over};
 ghost use Rattle.lines.specs.Putting.{Put};
 ghost use Rattle.load_script.specs.Load.{load_of, object, name, after_file, file_of, damage_of, script_with, script_for};
-ghost use Rattle.load_script.specs.Answers.{load_answer, load_after, read_as, answer_of, text_after};
+ghost use Rattle.load_script.specs.Answers.{read_as, answer_of, text_after};
 
 use asdu::FtError;
 use generator::{DamageResult, FileResult, Generator};
@@ -157,8 +157,8 @@ fn fill_damage(load: Load, generator: Generator, damage: &mut [u8]) -> u8
     }
 }
 
-// Puts the load's script over the front of out, and answers its length.
-fn put_load(load: Load, out: &mut [u8; 65536]) -> usize
+// Writes the load's script over the front of out, and answers its length.
+fn write_load(load: Load, out: &mut [u8; 65536]) -> usize
     requires { (load.octets ≤ 8192) × (load.entries ≤ 255) }
     ensures { (result ≡ length (text_of (script_for load))) × (out.new ≡ over (text_of (script_for load)) out.old) }
 {
@@ -173,27 +173,13 @@ fn put_load(load: Load, out: &mut [u8; 65536]) -> usize
     )
 }
 
-// Writes the load's script over the front of out, and answers its length. A load that no script can have is 11,
-// as it is in a text, and nothing is written.
-pub fn write_load(load: Load, out: &mut [u8; 65536]) -> TextResult
-    ensures { (result ≡ load_answer load) × (out.new ≡ load_after load out.old) }
-{
-    if read::MAX_FILE < load.octets {
-        return TextResult::Err(FtError::ScriptMisshapen);
-    }
-    if read::MAX_DAMAGE < load.entries {
-        return TextResult::Err(FtError::ScriptMisshapen);
-    }
-    TextResult::Ok(put_load(load, out))
-}
-
 // Writes the script of the load that the text is over the front of out, and answers its length. A text that
 // is no load is 11, and nothing is written.
 pub fn write(text: &[u8], out: &mut [u8; 65536]) -> TextResult
     ensures { (result ≡ answer_of (load_of text.now)) × (out.new ≡ text_after (load_of text.now) out.old) }
 {
     match read_load(text) {
-        LoadRead::Is(load) => write_load(load, out),
+        LoadRead::Is(load) => TextResult::Ok(write_load(load, out)),
         LoadRead::Nothing => TextResult::Err(FtError::ScriptMisshapen),
     }
 }

@@ -1,5 +1,4 @@
 // Calls of `replay` (docs/REPLAY.md) on the Provider and the Receiver that a list keeps.
 pub mod kept; // both records as numbers
-pub mod layout; // the places of these numbers
 pub mod providing; // the Provider
 pub mod receiving; // the Receiver

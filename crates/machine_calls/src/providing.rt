@@ -1,6 +1,6 @@
 // Calls of the Provider that is kept, over the file.
 use crate::kept;
-use crate::layout::{PARTY_PROVIDER, PROVIDER, PROVIDER_IOA, PROVIDER_LEN};
+use crate::kept::{PARTY_PROVIDER, PROVIDER};
 use asdu::Nos;
 use provide::{CountResult, FrameResult, PartResult, Provider, ProviderResult, ProviderStep};
 use requests::{ProviderAnswer, Reply};
@@ -159,9 +159,9 @@ fn decided(which: u8, args: &Numbers) {
 // Sets the field at this place, or takes other places' numbers.
 fn set(which: u8, regs: &mut Numbers, number: u64) {
     match which {
-        6 => held::copy_within(regs, STATION, PROVIDER, held::STATION_LEN),
-        7 => held::copy_within(regs, PARTY_PROVIDER, PROVIDER, PROVIDER_LEN),
-        _ => put(regs, PROVIDER + PROVIDER_IOA, which, number),
+        6 => held::copy_within(regs, STATION, PROVIDER, held::STATION_PLACES),
+        7 => held::copy_within(regs, PARTY_PROVIDER, PROVIDER, kept::PROVIDER_PLACES),
+        _ => put(regs, kept::PROVIDER_FIELDS, which, number),
     }
     write::word(write::SET);
 }

@@ -1,6 +1,6 @@
 // Calls of the Receiver that is kept, over the store.
-use crate::layout::{PARTY_RECEIVER, RECEIVER};
-use crate::{kept, layout};
+use crate::kept;
+use crate::kept::{PARTY_RECEIVER, RECEIVER};
 use asdu::{Chs, Frq, Header, Nos, Srq, UnknownField};
 use ft::Received;
 use receive::{Length, Receiver, ReceiverAnswer, ReceiverResult, ReceiverStep, ToSend};
@@ -181,27 +181,15 @@ fn change(which: u8, regs: &mut Numbers, store: &mut [u8], args: &Numbers, octet
 // Sets a field, or takes other places' numbers.
 fn set(which: u8, regs: &mut Numbers, args: &Numbers) {
     match which {
-        0 => put(regs, RECEIVER, layout::RECEIVER_IOA, args[0]),
-        1 => put(regs, RECEIVER, layout::RECEIVER_NOF, args[0]),
-        2 => put(regs, RECEIVER, layout::RECEIVER_KEPT, args[0]),
-        3 => put(regs, RECEIVER, layout::RECEIVER_STAGED, args[0]),
-        4 => put(regs, RECEIVER, layout::RECEIVER_DONE, args[0]),
-        5 => copy(
-            args,
-            0,
-            layout::SENT_LEN,
-            regs,
-            RECEIVER + layout::RECEIVER_SENT,
-        ),
-        6 => copy(
-            args,
-            0,
-            layout::LENGTH_LEN,
-            regs,
-            RECEIVER + layout::RECEIVER_LENGTH,
-        ),
-        7 => held::copy_within(regs, STATION, RECEIVER, held::STATION_LEN),
-        _ => held::copy_within(regs, PARTY_RECEIVER, RECEIVER, layout::RECEIVER_LEN),
+        0 => put(regs, RECEIVER, 7, args[0]),
+        1 => put(regs, RECEIVER, 8, args[0]),
+        2 => put(regs, RECEIVER, 14, args[0]),
+        3 => put(regs, RECEIVER, 15, args[0]),
+        4 => put(regs, RECEIVER, 16, args[0]),
+        5 => copy(args, 0, 3, regs, RECEIVER + 9),
+        6 => copy(args, 0, 2, regs, RECEIVER + 12),
+        7 => held::copy_within(regs, STATION, RECEIVER, held::STATION_PLACES),
+        _ => held::copy_within(regs, PARTY_RECEIVER, RECEIVER, kept::RECEIVER_PLACES),
     }
     write::word(write::SET);
 }

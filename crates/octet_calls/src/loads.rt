@@ -2,7 +2,7 @@
 // fills, and the script of a load.
 use crate::{Text, read_front, text_of, without_last};
 use generator::{DamageResult, FileResult, Generator};
-use load_script::{Load, TextResult};
+use load_script::TextResult;
 use station_calls::kept;
 use words::{Numbers, Octets, at, read, text, u32_at, write};
 
@@ -51,16 +51,15 @@ fn fill_damage_in(generator: Generator, length: u64, list: &mut [u8], used: u64)
     }
 }
 
-// Answers the line, if it is a call of the generator, over the used parts of file and damage, or of a load's three
-// numbers. No octets stand in these calls, so that reading one leaves the file.
+// Answers the line, if it is a call of the generator, over the used parts of file and damage. No octets stand
+// in these calls, so that reading one leaves the file.
 fn is_of_generator(line: &[u8], regs: &Numbers, file: &mut Octets, damage: &mut Octets) -> bool {
     let mut args = [0u64; 128];
     let which = read::call(
         line,
         b"load step:4
 load file:4
-load damage:48
-load write:444",
+load damage:48",
         &mut args,
         file,
     );
@@ -71,11 +70,6 @@ load write:444",
         0 => step(generator),
         1 => fill_file_in(generator, file, at(regs, kept::FILE, 0)),
         2 => fill_damage_in(generator, args[1], damage, at(regs, kept::DAMAGE, 0)),
-        3 => show_load(Load {
-            state: u32_at(&args, 0, 0),
-            octets: u32_at(&args, 1, 0),
-            entries: u32_at(&args, 2, 0),
-        }),
         _ => return false,
     }
     true
@@ -96,25 +90,13 @@ fn quote(script: &Text, count: usize) {
     write::text(b"\"");
 }
 
-fn show(res: TextResult, script: &Text) {
-    match res {
-        TextResult::Ok(length) => quote(script, length),
-        TextResult::Err(error) => write::refused(error),
-    }
-}
-
 // Shows the script of the load that the first octets of a text are.
 fn show_script(load: &Text, count: usize) {
     let mut script = io::large_buffer();
-    let result = load_script::write(text::front(load, count as u64), &mut script);
-    show(result, &script);
-}
-
-// The same of a load's three numbers.
-fn show_load(load: Load) {
-    let mut script = io::large_buffer();
-    let result = load_script::write_load(load, &mut script);
-    show(result, &script);
+    match load_script::write(text::front(load, count as u64), &mut script) {
+        TextResult::Ok(length) => quote(&script, length),
+        TextResult::Err(error) => write::refused(error),
+    }
 }
 
 // Reads it into the buffers.

@@ -1,9 +1,8 @@
 // Calls of `replay` (docs/REPLAY.md) on a directory page to print: an entry put into the store, the page of the
-// store's entries, and the page of entries as text; and what is refused of either, by entry and field.
+// store's entries, and the page of entries as text.
 use crate::{Text, text_of, without_last};
 use asdu::{DirectoryEntry, Packed};
-use directory_page::{Fault, Field, PrintResult};
-use directory_text::TextFault;
+use directory_page::PrintResult;
 use station_calls::kept;
 use stored::STORED;
 use values::make;
@@ -95,57 +94,6 @@ fn print_into(entries: &[u8], count: u64) {
     }
 }
 
-// ---- What is refused
-
-fn name(field: Field) {
-    match field {
-        Field::Milliseconds => write::text(b" milliseconds"),
-        Field::Minutes => write::text(b" minutes"),
-        Field::Hours => write::text(b" hours"),
-        Field::Month => write::text(b" month"),
-        Field::Year => write::text(b" year"),
-        Field::Address => write::text(b" address"),
-    }
-}
-
-// The entry's number and the field, and of a field over its limit both numbers.
-fn show_fault(fault: Fault) {
-    match fault {
-        Fault::Nothing => write::text(b"nothing"),
-        Fault::Part => write::text(b"part"),
-        Fault::Reserved { entry, field } => {
-            write::text(b"reserved");
-            write::next(entry as u64);
-            name(field);
-        }
-        Fault::Over {
-            entry,
-            field,
-            value,
-            limit,
-        } => {
-            write::text(b"over");
-            write::next(entry as u64);
-            name(field);
-            write::next(value as u64);
-            write::next(limit as u64);
-        }
-    }
-}
-
-fn show_line(line: usize) {
-    write::text(b"line");
-    write::next(line as u64);
-}
-
-// Of the first octets of a text.
-fn find_in(entries: &Text, count: usize) {
-    match directory_text::find(text::front(entries, count as u64)) {
-        TextFault::Line(line) => show_line(line),
-        TextFault::Entries(fault) => show_fault(fault),
-    }
-}
-
 // ---- A page from text
 
 // Writes the page of the entries that the first octets of a text are, into a page of 1,000 lines.
@@ -166,24 +114,6 @@ fn is_text(line: &[u8]) -> bool {
     false
 }
 
-// Answers the line, if it is a call of what is refused of such a text.
-fn is_text_fault(line: &[u8]) -> bool {
-    let mut entries = io::large_buffer();
-    let count = text_of(line, b"page text_fault \"", &mut entries);
-    if count <= 65536 {
-        find_in(&entries, count);
-        return true;
-    }
-    false
-}
-
-fn is_of_text(line: &[u8]) -> bool {
-    if is_text(line) {
-        return true;
-    }
-    is_text_fault(line)
-}
-
 // ---- Calls
 
 // Answers the line, if it is a call of a page or puts an entry into the store.
@@ -192,16 +122,14 @@ pub fn call(line: &[u8], regs: &mut Numbers, store: &mut Octets) -> bool {
     let which = read::call(
         line,
         b"store add:4241fff21ff1f1111
-page print:c
-page fault",
+page print:c",
         &mut args,
         store,
     );
     match which {
         0 => add(regs, store, u32_at(&args, 0, 0), make::entry(&args, 1)),
         1 => print_into(text::front(store, at(regs, kept::STORE, 0)), args[0]),
-        2 => show_fault(directory_page::find(text::front(store, at(regs, kept::STORE, 0)))),
-        _ => return is_of_text(line),
+        _ => return is_text(line),
     }
     true
 }

@@ -18,8 +18,7 @@ use Rattle.asdu.specs.declared.EntryResult.TheVariants.{Ok, Err}
 use Rattle.asdu.proofs.Octets.{thirteen}
 use Rattle.asdu.proofs.Range.{both}
 use Rattle.asdu.proofs.EntryLaws.{unpack-pack, pack-unpack}
-use Rattle.stored.specs.Stored.{entries_in}
-use Rattle.pager.specs.Pages.{entries_right, packed_entry, flagged, sent_entry, entries_on, page_count, entry_count, sent_octets, page_octets}
+use Rattle.pager.specs.Pages.{entries_of, entries_right, packed_entry, flagged, sent_entry, page_count, entry_count, sent_octets, page_octets}
 use Rattle.pager.proofs.Entries.{page_starts, packed_unpacks}
 
 -- what unpacks has its reserved bits 0
@@ -47,20 +46,20 @@ small_part : (o : List ℕ) → ((i : ℕ) → get_or o i 0 < 256) → (at n i :
 small_part o small at n i = small_front n (drop at o) i (λ j. rw (get_or-drop at o j 0) (small (at + j)))
 
 module _ (o : List ℕ) (right : entries_right o ≡ true) (small : (i : ℕ) → get_or o i 0 < 256) where
-  pub sent_range : (k : ℕ) → k < entries_in o → entry_in_range (sent_entry o k) ≡ true
+  pub sent_range : (k : ℕ) → k < entries_of o → entry_in_range (sent_entry o k) ≡ true
   unfolding sent_entry packed_entry
   sent_range k h =
       flagged_range _ (entry_of (packed_entry o k))
       ∙ (pack-unpack (packed_entry o k) (entry_of (packed_entry o k)) (small_part o small (13 * k) 13) (packed_unpacks o right k h)).1
 
-  pub sent_unpacks : (k : ℕ) → k < entries_in o → unpacked (entry_octets (sent_entry o k)) ≡ Ok (sent_entry o k)
+  pub sent_unpacks : (k : ℕ) → k < entries_of o → unpacked (entry_octets (sent_entry o k)) ≡ Ok (sent_entry o k)
   sent_unpacks k h = unpack-pack (sent_entry o k) (sent_range k h)
 
-  sent_is_clear : (k : ℕ) → k < entries_in o → reserved_clear (entry_octets (sent_entry o k)) ≡ true
+  sent_is_clear : (k : ℕ) → k < entries_of o → reserved_clear (entry_octets (sent_entry o k)) ≡ true
   sent_is_clear k h = clear_where (entry_octets (sent_entry o k)) (sent_entry o k) (sent_unpacks k h)
 
   -- each comes back from its octets
-  pub sent_back : (k : ℕ) → k < entries_in o → entry_of (entry_octets (sent_entry o k)) ≡ sent_entry o k
+  pub sent_back : (k : ℕ) → k < entries_of o → entry_of (entry_octets (sent_entry o k)) ≡ sent_entry o k
   unfolding unpacked
   sent_back k h =
       let e = sent_entry o k in
@@ -78,15 +77,15 @@ module _ (o : List ℕ) (right : entries_right o ≡ true) (small : (i : ℕ) �
   pub sent_rest : (n k : ℕ) → drop 13 (sent_octets o (suc n) k) ≡ sent_octets o n (suc k)
   sent_rest n k = drop_at (entry_octets (sent_entry o k)) (sent_octets o n (suc k)) 13 (thirteen (sent_entry o k))
 
-  pub sent_clear : (n k : ℕ) → k + n ≤ entries_in o → all_clear n (sent_octets o n k) ≡ true
+  pub sent_clear : (n k : ℕ) → k + n ≤ entries_of o → all_clear n (sent_octets o n k) ≡ true
   sent_clear zero k h = refl
   sent_clear (suc n) k h =
       simp (sent_first n k, sent_rest n k, sent_is_clear k (omega arith), whens, sent_clear n (suc k) (omega arith))
 
   -- a page has 1 to 18 entries, all of the list
-  pub entries_of_page : (i : ℕ) → i < page_count o → (1 ≤ entry_count o i) × (entry_count o i ≤ 18) × (i * 18 + entry_count o i ≤ entries_in o)
-  unfolding page_count entry_count entries_on
-  entries_of_page i h = let starts = page_starts (entries_in o) i h in (omega arith, omega arith, omega arith)
+  pub entries_of_page : (i : ℕ) → i < page_count o → (1 ≤ entry_count o i) × (entry_count o i ≤ 18) × (i * 18 + entry_count o i ≤ entries_of o)
+  unfolding entry_count entries_of
+  entries_of_page i h = let starts = page_starts o i h in (omega arith, omega arith, omega arith)
 
   -- a page's entries, joined, are those of a directory page
   pub page_right_lem : (i : ℕ) → i < page_count o → page_right (page_octets o i) ≡ true

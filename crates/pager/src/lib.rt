@@ -1,11 +1,9 @@
 // The pages of a directory (IEC 60870-5-101, 7.3.6.7, and document 01, The directory): which entries of
 // a station's list go into which F_DR_TA_1 frame, at which address, and with which last-file flag. The
-// list is lent as packed entries, 13 octets each. What is answered goes by whether each entry is in range, how
-// many there are, and the entry itself, in functions that `pager_list` calls too.
-ghost use Rattle.std.specs.Prelude.{◌≡◌, ◌+◌, ◌<◌, eqb};
-ghost use Rattle.asdu.specs.Entry.{unpacked};
-ghost use Rattle.stored.specs.Stored.{entries_in};
-ghost use Rattle.pager.specs.Pages.{entries_right, packed_entry, flagged, pages_of, pages_by, page_by, number_of, sent_by, past_by, pages_answer, page_answer, entry_answer};
+// list is lent as packed entries, 13 octets each.
+ghost use Rattle.std.specs.Prelude.{◌≡◌, true, ◌<◌};
+ghost use Rattle.pager.specs.Pages.{entries_right, entries_of, page_count, entry_count, pages_answer, page_answer, flagged, flagged_answer, sent_entry, entry_answer};
+ghost use Rattle.asdu.specs.declared.EntryResult.TheVariants.{Ok};
 
 use asdu::entry::{entry_address, is_page};
 use asdu::{DirectoryEntry, EntryResult, FtError, sizes};
@@ -49,56 +47,49 @@ fn are_in_range(entries: &[u8]) -> bool
     true
 }
 
-// How many pages so many entries fill; the last page may have fewer entries than the others.
-fn page_count(count: usize) -> usize
-    ensures { result ≡ pages_of count }
+// How many pages so many octets of entries fill; the last page may have fewer entries than the others.
+fn page_count(entries: &[u8]) -> usize
+    ensures { result ≡ page_count entries.now }
 {
-    if count == 0 {
-        return 0;
-    }
-    (count - 1) / sizes::MAX_DIRECTORY_FILES + 1
+    (entries.len() / DirectoryEntry::LEN + (sizes::MAX_DIRECTORY_FILES - 1))
+        / sizes::MAX_DIRECTORY_FILES
 }
 
-// The number of pages of so many entries, where `right` says whether each is in range: else 4.
-pub fn pages_of(right: bool, count: usize) -> PagesResult
-    ensures { result ≡ pages_by right count }
+// How many entries a page has.
+fn entry_count(entries: &[u8], page: usize) -> usize
+    requires { page < page_count entries.now }
+    ensures { result ≡ entry_count entries.now page }
 {
-    if !right {
+    let left = entries.len() / DirectoryEntry::LEN - page * sizes::MAX_DIRECTORY_FILES;
+    least(sizes::MAX_DIRECTORY_FILES, left)
+}
+
+// The number of pages: 4 for a broken length or an entry out of range. No entries give no page.
+pub fn pages(entries: &[u8]) -> PagesResult
+    ensures { result ≡ pages_answer entries.now }
+{
+    if !are_in_range(entries) {
         return PagesResult::Err(FtError::ValueOutOfRange);
     }
-    PagesResult::Ok(page_count(count))
+    PagesResult::Ok(page_count(entries))
 }
 
-// The address and the number of entries of a page of so many entries, the first of all at the address `ioa`:
-// 4, then 9 for a page past the last.
-pub fn page_of(ioa: u32, right: bool, count: usize, index: usize) -> PageResult
-    ensures { result ≡ page_by ioa right count index }
+// A page's address and number of entries, where the first entry of all is at the address `ioa`: 4, then 9
+// for a page past the last.
+pub fn page_at(ioa: u32, entries: &[u8], index: usize) -> PageResult
+    ensures { result ≡ page_answer ioa entries.now index }
 {
-    if !right {
+    if !are_in_range(entries) {
         return PageResult::Err(FtError::ValueOutOfRange);
     }
-    if page_count(count) <= index {
+    if page_count(entries) <= index {
         return PageResult::Err(FtError::IndexOutOfRange);
     }
-    let first = index * sizes::MAX_DIRECTORY_FILES;
+    let count = entry_count(entries, index);
     PageResult::Ok(Page {
-        ioa: entry_address(ioa, first),
-        count: least(sizes::MAX_DIRECTORY_FILES, count - first),
+        ioa: entry_address(ioa, index * sizes::MAX_DIRECTORY_FILES),
+        count,
     })
-}
-
-// The number of an entry of a page, counted over all pages from 0; the largest number where no list has
-// such an entry.
-pub fn number_of(page: usize, index: usize) -> usize
-    ensures { result ≡ number_of page index }
-{
-    if sizes::MAX_DIRECTORY_FILES <= index {
-        return usize::MAX;
-    }
-    if (usize::MAX - index) / sizes::MAX_DIRECTORY_FILES < page {
-        return usize::MAX;
-    }
-    page * sizes::MAX_DIRECTORY_FILES + index
 }
 
 // The entry with the last-file flag (7.2.6.38) as told, whatever it was.
@@ -112,64 +103,23 @@ fn flagged(last: bool, entry: DirectoryEntry) -> DirectoryEntry
     out
 }
 
-// Whether the entry of this number is the last of so many.
-fn is_last(number: usize, count: usize) -> bool
-    ensures { result ≡ eqb (number + 1) count }
+fn flagged_answer(last: bool, unpacked: EntryResult) -> EntryResult
+    ensures { result ≡ flagged_answer last unpacked }
 {
-    if count == 0 {
-        return false;
+    match unpacked {
+        EntryResult::Ok(entry) => EntryResult::Ok(flagged(last, entry)),
+        EntryResult::Err(error) => EntryResult::Err(error),
     }
-    number == count - 1
 }
 
-// The entry of this number of so many, as its page carries it, with the last-file flag set on the last of
-// all and cleared on every other; 4 where not all are in range.
-pub fn sent_entry(right: bool, number: usize, count: usize, entry: DirectoryEntry) -> EntryResult
-    ensures { result ≡ sent_by right number count entry }
-{
-    if !right {
-        return EntryResult::Err(FtError::ValueOutOfRange);
-    }
-    EntryResult::Ok(flagged(is_last(number, count), entry))
-}
-
-// What is answered for an entry past the last: 4 where not all are in range, then 9.
-pub fn past_end(right: bool) -> EntryResult
-    ensures { result ≡ past_by right }
-{
-    if !right {
-        return EntryResult::Err(FtError::ValueOutOfRange);
-    }
-    EntryResult::Err(FtError::IndexOutOfRange)
-}
-
-// The number of pages: 4 for a broken length or an entry out of range. No entries give no page.
-pub fn pages(entries: &[u8]) -> PagesResult
-    ensures { result ≡ pages_answer entries.now }
-{
-    pages_of(are_in_range(entries), entries.len() / DirectoryEntry::LEN)
-}
-
-// A page's address and number of entries, where the first entry of all is at the address `ioa`: 4, then 9
-// for a page past the last.
-pub fn page_at(ioa: u32, entries: &[u8], index: usize) -> PageResult
-    ensures { result ≡ page_answer ioa entries.now index }
-{
-    page_of(
-        ioa,
-        are_in_range(entries),
-        entries.len() / DirectoryEntry::LEN,
-        index,
-    )
-}
-
-// The entry of this number, unpacked.
-fn unpacked_at(entries: &[u8], number: usize) -> EntryResult
-    requires { number < entries_in entries.now }
-    ensures { result ≡ unpacked (packed_entry entries.now number) }
+// The entry of this number, counted over all pages from 0, as its page carries it.
+fn sent_entry(entries: &[u8], number: usize) -> EntryResult
+    requires { (entries_right entries.now ≡ true) × (number < entries_of entries.now) }
+    ensures { result ≡ Ok (sent_entry entries.now number) }
 {
     let at = DirectoryEntry::LEN * number;
-    DirectoryEntry::unpack(&entries[at..at + DirectoryEntry::LEN])
+    let unpacked = DirectoryEntry::unpack(&entries[at..at + DirectoryEntry::LEN]);
+    flagged_answer(number + 1 == entries.len() / DirectoryEntry::LEN, unpacked)
 }
 
 // One entry of a page, with the last-file flag set on the last entry of all and cleared on every other:
@@ -177,14 +127,14 @@ fn unpacked_at(entries: &[u8], number: usize) -> EntryResult
 pub fn entry_at(entries: &[u8], page: usize, index: usize) -> EntryResult
     ensures { result ≡ entry_answer entries.now page index }
 {
-    let right = are_in_range(entries);
-    let count = entries.len() / DirectoryEntry::LEN;
-    let number = number_of(page, index);
-    if count <= number {
-        return past_end(right);
+    if !are_in_range(entries) {
+        return EntryResult::Err(FtError::ValueOutOfRange);
     }
-    match unpacked_at(entries, number) {
-        EntryResult::Ok(entry) => sent_entry(right, number, count, entry),
-        EntryResult::Err(error) => EntryResult::Err(error),
+    if page_count(entries) <= page {
+        return EntryResult::Err(FtError::IndexOutOfRange);
     }
+    if entry_count(entries, page) <= index {
+        return EntryResult::Err(FtError::IndexOutOfRange);
+    }
+    sent_entry(entries, page * sizes::MAX_DIRECTORY_FILES + index)
 }

@@ -9,15 +9,14 @@ use lib.ListN.{length, take, drop, get_or, length-append}
 use lib.Seq.{drop-drop, take_at, drop_at}
 use Rattle.laws.specs.When.{◌and◌}
 use Rattle.laws.proofs.Decide.{whens}
-use Rattle.asdu.specs.Entry.{entry_in_range, entry_octets, reserved_clear, unpacked, all_clear}
+use Rattle.asdu.specs.Entry.{entry_in_range, entry_octets, entry_of, reserved_clear, unpacked, all_clear}
 use Rattle.asdu.specs.declared.DirectoryEntry.{DirectoryEntry}
 use Rattle.asdu.specs.declared.FtError.TheVariants.{ValueOutOfRange}
 use Rattle.asdu.specs.declared.EntryResult.TheVariants.{Ok, Err}
 use Rattle.asdu.proofs.Octets.{thirteen}
 use Rattle.asdu.proofs.Range.{both}
 use Rattle.asdu.proofs.EntryLaws.{unpack-pack}
-use Rattle.stored.specs.Stored.{entries_in}
-use Rattle.pager.specs.Pages.{entries_right, packed_entry}
+use Rattle.pager.specs.Pages.{entries_of, entries_right, packed_entry}
 use Rattle.pager_list.specs.Listed.{all_in_range, packed_list}
 
 -- ---- one entry
@@ -30,6 +29,13 @@ clear e h = go (eqb (length (entry_octets e)) 13 and reserved_clear (entry_octet
     go : (b : Bool) → (eqb (length (entry_octets e)) 13 and reserved_clear (entry_octets e)) ≡ b → reserved_clear (entry_octets e) ≡ true
     go true p = (both (eqb (length (entry_octets e)) 13) (reserved_clear (entry_octets e)) p).1
     go false p = let u : Err ValueOutOfRange ≡ Ok e = simp (whens, p) at (unpack-pack e h) in let z : ◌≡◌ {A = ℕ} 0 1 = cc in absurd (omega arith)
+
+-- it comes back from its octets
+pub back : (e : DirectoryEntry) → entry_in_range e ≡ true → entry_of (entry_octets e) ≡ e
+unfolding unpacked
+back e h =
+    let same : Ok (entry_of (entry_octets e)) ≡ Ok e = simp (thirteen e, clear e h, whens) at (unpack-pack e h) in
+    cc
 
 -- ---- all of them
 
@@ -49,8 +55,8 @@ list_clear (e ∷ es) h =
     let b = both (entry_in_range e) (all_in_range es) h in
     simp (list_first e es, list_rest e es, clear e b.0, whens, list_clear es b.1)
 
-pub list_count : (es : List DirectoryEntry) → entries_in (packed_list es) ≡ length es
-unfolding entries_in
+pub list_count : (es : List DirectoryEntry) → entries_of (packed_list es) ≡ length es
+unfolding entries_of
 list_count es = rw (list_long es) (omega arith)
 
 pub list_right : (es : List DirectoryEntry) → all_in_range es ≡ true → entries_right (packed_list es) ≡ true

@@ -2,27 +2,26 @@
 // file, damage and store.
 use exchange::Sender;
 use frame::Frame;
-use machine_calls::layout;
-use machine_calls::layout::{
-    PARTY_PROVIDER, PARTY_RECEIVER, PASSED, PROVIDER, QUEUE, RADIO, RECEIVER,
-};
-use party_kept::{keep_party, party, settings, show_record};
+use machine_calls::kept;
+use machine_calls::kept::{PARTY_PROVIDER, PARTY_RECEIVER, PROVIDER, RECEIVER};
+use party_kept::{QUEUE, RADIO, keep_party, party, settings, show_record};
 use run::RunResult;
 use station_calls::kept as held;
 use twoparty::{NextFrame, TwoParty, TwoPartyResult};
 use values::{make, show};
 use words::{Numbers, Octets, at, copy, keep, put, read, text, write};
 
+// How many frames of each side have passed in this call, the Provider's first.
+const PASSED: u8 = 104;
+
 // ---- A run
 
 fn ending(res: RunResult) {
     match res {
-        RunResult::Whole { octets, frames } => {
-            write::answer(write::WHOLE, octets as u64, frames as u64, 0)
+        RunResult::Whole { length, frames } => {
+            write::answer(write::WHOLE, length as u64, frames as u64, 0)
         }
-        RunResult::Spent { octets, frames } => {
-            write::answer(write::SPENT, octets as u64, frames as u64, 0)
-        }
+        RunResult::Spent { frames } => write::answer(write::SPENT, frames as u64, 0, 0),
         RunResult::Err(error) => write::refused(error),
     }
 }
@@ -64,12 +63,6 @@ fn new(regs: &mut Numbers, args: &Numbers, file: &[u8], damage: &[u8], store: &[
 fn step(regs: &mut Numbers, file: &[u8], damage: &[u8], store: &mut [u8]) {
     let party = party(regs);
     keep_made(regs, write::STEPPED, party.step(file, damage, store));
-}
-
-fn advance(regs: &mut Numbers, file: &[u8], damage: &[u8], store: &mut [u8]) {
-    let party = party(regs);
-    keep_party(regs, party.advance(file, damage, store));
-    write::word(write::STEPPED);
 }
 
 // ---- The frame that passes next
@@ -205,8 +198,7 @@ fn change(
         0 => run_in(args, file, damage, store),
         1 => new(regs, args, file, damage, store),
         2 => step(regs, file, damage, store),
-        3 => advance(regs, file, damage, store),
-        4 => pass_counted(regs, file, damage, store, args[0]),
+        3 => pass_counted(regs, file, damage, store, args[0]),
         _ => pass_printed(regs, file, damage, store, args[0]),
     }
 }
@@ -228,12 +220,12 @@ fn change_in(
 
 fn set(which: u8, regs: &mut Numbers, args: &Numbers) {
     match which {
-        9 => held::copy_within(regs, PROVIDER, PARTY_PROVIDER, layout::PROVIDER_LEN),
-        10 => held::copy_within(regs, RECEIVER, PARTY_RECEIVER, layout::RECEIVER_LEN),
-        11 => put(regs, QUEUE, 0, 0),
-        12 => put(regs, QUEUE, 0, 1),
-        13 => set_queue(regs, args),
-        _ => copy(args, 0, layout::RADIO_LEN, regs, RADIO),
+        7 => held::copy_within(regs, PROVIDER, PARTY_PROVIDER, kept::PROVIDER_PLACES),
+        8 => held::copy_within(regs, RECEIVER, PARTY_RECEIVER, kept::RECEIVER_PLACES),
+        9 => put(regs, QUEUE, 0, 0),
+        10 => put(regs, QUEUE, 0, 1),
+        11 => set_queue(regs, args),
+        _ => copy(args, 0, 2, regs, RADIO),
     }
     write::word(write::SET);
 }
@@ -241,15 +233,14 @@ fn set(which: u8, regs: &mut Numbers, args: &Numbers) {
 // A reply of the Provider's is on its way.
 fn set_queue(regs: &mut Numbers, args: &Numbers) {
     put(regs, QUEUE, 0, 2);
-    let rest = layout::QUEUE_LEN - layout::QUEUE_REPLY;
-    copy(args, 0, rest, regs, QUEUE + layout::QUEUE_REPLY);
+    copy(args, 0, 4, regs, QUEUE + 1);
 }
 
 fn answer(which: u8, regs: &Numbers, file: &[u8]) {
-    match which {
-        6 => passing(party(regs).next_frame(file)),
-        7 => write::yes_or_no(party(regs).is_over(file)),
-        _ => show_record(regs),
+    if which == 5 {
+        passing(party(regs).next_frame(file));
+    } else {
+        show_record(regs);
     }
 }
 
@@ -268,11 +259,9 @@ pub fn call(
         b"run:8111242r
 party new:111242r
 party step
-party advance
 party pass:8
 party lines:8
 party next_frame
-party is_over
 party show
 party set provider
 party set receiver
@@ -287,10 +276,10 @@ script line R:F",
     );
     match which {
         read::MISSING => return false,
-        0..=5 => change_in(which, regs, &args, file, damage, store),
-        6..=8 => answer(which, regs, file),
-        15 => print_line(Sender::Provider, make::frame(&args, 0)),
-        16 => print_line(Sender::Receiver, make::frame(&args, 0)),
+        0..=4 => change_in(which, regs, &args, file, damage, store),
+        5..=6 => answer(which, regs, file),
+        13 => print_line(Sender::Provider, make::frame(&args, 0)),
+        14 => print_line(Sender::Receiver, make::frame(&args, 0)),
         _ => set(which, regs, &args),
     }
     true

@@ -1,35 +1,44 @@
 // The transfer that a list of `replay` keeps, from and to numbers, and what it is made of.
-use machine_calls::layout::{PARTY_PROVIDER, PARTY_RECEIVER, QUEUE, RADIO};
-use machine_calls::{kept, layout, providing, receiving};
+use machine_calls::kept::{PARTY_PROVIDER, PARTY_RECEIVER};
+use machine_calls::{kept, providing, receiving};
 use radio::Radio;
 use station_calls::kept as held;
 use twoparty::{Queue, Settings, TwoParty};
 use values::make;
-use words::{Numbers, at, flag_at, keep, later, of_flag, u8_at, u16_at, u32_at, write};
+use words::{Numbers, at, flag_at, keep, later, of_flag, put, u8_at, u16_at, u32_at, write};
+
+// The queue (kind, reply (2), next, damaged) and the radio (section, left) of the transfer that is kept.
+pub const QUEUE: u8 = 92;
+
+pub const RADIO: u8 = 100;
 
 fn queue(regs: &Numbers) -> Queue {
     match at(regs, QUEUE, 0) {
         0 => Queue::Empty,
         1 => Queue::Receiver,
         _ => Queue::Provider {
-            reply: kept::reply(regs, QUEUE + layout::QUEUE_REPLY),
-            next: at(regs, QUEUE, layout::QUEUE_NEXT) as usize,
-            damaged: flag_at(regs, QUEUE, layout::QUEUE_DAMAGED),
+            reply: kept::reply(regs, QUEUE + 1),
+            next: at(regs, QUEUE, 3) as usize,
+            damaged: flag_at(regs, QUEUE, 4),
         },
     }
 }
 
-fn queue_numbers(queue: Queue) -> [u64; layout::QUEUE_LEN as usize] {
+fn keep_queue(regs: &mut Numbers, queue: Queue) {
     match queue {
-        Queue::Empty => [0, 0, 0, 0, 0],
-        Queue::Receiver => [1, 0, 0, 0, 0],
+        Queue::Empty => put(regs, QUEUE, 0, 0),
+        Queue::Receiver => put(regs, QUEUE, 0, 1),
         Queue::Provider {
             reply,
             next,
             damaged,
         } => {
             let numbers = kept::reply_numbers(reply);
-            [2, numbers[0], numbers[1], next as u64, of_flag(damaged)]
+            keep(
+                regs,
+                QUEUE,
+                &[2, numbers[0], numbers[1], next as u64, of_flag(damaged)],
+            );
         }
     }
 }
@@ -39,10 +48,6 @@ fn radio(regs: &Numbers) -> Radio {
         section: u8_at(regs, RADIO, 0),
         left: at(regs, RADIO, 1) as usize,
     }
-}
-
-fn radio_numbers(radio: Radio) -> [u64; layout::RADIO_LEN as usize] {
-    [radio.section as u64, radio.left as u64]
 }
 
 pub fn party(regs: &Numbers) -> TwoParty {
@@ -61,8 +66,8 @@ pub fn keep_party(regs: &mut Numbers, party: TwoParty) {
     let radio = party.radio;
     kept::keep_provider(regs, PARTY_PROVIDER, provider);
     kept::keep_receiver(regs, PARTY_RECEIVER, receiver);
-    keep(regs, QUEUE, &queue_numbers(queue));
-    keep(regs, RADIO, &radio_numbers(radio));
+    keep_queue(regs, queue);
+    keep(regs, RADIO, &[radio.section as u64, radio.left as u64]);
 }
 
 pub fn show_record(regs: &Numbers) {

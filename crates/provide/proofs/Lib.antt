@@ -3,9 +3,6 @@ pub mod Facts
 pub mod Making
 pub mod Announcing
 pub mod Building
-pub mod Changes
 pub mod Refusals
-pub mod Keeping
 pub mod Indexed
 pub mod Table
-pub mod Unknown

@@ -1,23 +1,34 @@
 -- What a making that accepts says of its arguments, and that its record agrees with its file.
 use Prim.Native.Nat.{ℕ, ◌≤◌}
 use mathlib.Core.Path.{◌≡◌, refl}
-use mathlib.Core.Bool.{true}
+use mathlib.Core.Bool.{Bool, true, false}
 use mathlib.Core.List.{List}
 use lib.Dec.{leb}
 use lib.ListN.{length}
 use borrow.Author.Tests.{leb-true, le-leb, eq-eqb, eqb-true}
-use Rattle.laws.specs.When.{when}
-use Rattle.asdu.specs.Sizes.{max_ioa}
+use Rattle.laws.specs.When.{when, unless}
+use Rattle.asdu.specs.Sizes.{sizes_right, max_ioa}
 use Rattle.asdu.proofs.Range.{both}
 use Rattle.asdu.specs.declared.Nof.{Nof}
-use Rattle.asdu.specs.declared.FtError.TheVariants as E
-use Rattle.ft.specs.Procedure.{settled}
+use Rattle.asdu.specs.declared.FtError.{FtError}
+use Rattle.ft.specs.Procedure.{settled, address_right, addressed}
 use Rattle.ft.specs.declared.FileTransferProcedure.{FileTransferProcedure}
-use Rattle.ft.proofs.Making.{passed, placed}
 use Rattle.sections.specs.Sections.{section_length}
 use Rattle.provide.specs.Record.{fresh_provider, provider_made, file_agrees}
 use Rattle.provide.specs.declared.Provider.{Provider}
+use Rattle.provide.specs.declared.ProviderResult.{ProviderResult}
 use Rattle.provide.specs.declared.ProviderResult.TheVariants.{Ok, Err}
+
+-- settings whose widths and own addresses are right
+pub settled_by : (p : FileTransferProcedure) → sizes_right p.sizes ≡ true → address_right p.sizes p.ca p.org ≡ true → settled p ≡ true
+unfolding settled when
+settled_by p z a = simp (z, a)
+
+-- a test that is passed before an answer
+test_held : (b : Bool) (e : FtError) (y : ProviderResult) (x : Provider) → unless b (Err e) y ≡ Ok x → (b ≡ true) × (y ≡ Ok x)
+unfolding when
+test_held true e y x h = (refl, h)
+test_held false e y x h = (cc, cc)
 
 module _ (p : FileTransferProcedure) (ioa : ℕ) (nof : Nof) (n : ℕ) where
   pub record Made (x : Provider) : Type 0 where
@@ -27,11 +38,13 @@ module _ (p : FileTransferProcedure) (ioa : ℕ) (nof : Nof) (n : ℕ) where
     pub fresh : x ≡ fresh_provider p ioa nof n
 
   pub made : (x : Provider) → provider_made p ioa nof n ≡ Ok x → Made x
-  unfolding provider_made
+  unfolding provider_made addressed
   made x e =
-      let z = placed p ioa (Err E.InvalidAddressSizes) (Err E.AddressOutOfRange) _ (Ok x) (λ is. cc) (λ is. cc) e in
-      let l = passed (leb n 0xFFFFFF) (Err E.FileTooLong) _ (Ok x) (λ is. cc) z.rest_is in
-      record { settings = z.settings; object = z.object; short = leb-true _ _ l.0; fresh = cc l.1 }
+      let z = test_held _ _ _ x e in
+      let a = test_held _ _ _ x z.1 in
+      let l = test_held _ _ _ x a.1 in
+      let o = both _ _ a.0 in
+      record { settings = settled_by p z.0 o.0; object = o.1; short = leb-true _ _ l.0; fresh = cc l.1 }
 
 -- what a making gives agrees with its file
 pub made_agrees : (p : FileTransferProcedure) (ioa : ℕ) (nof : Nof) (file : List ℕ) (x : Provider)

@@ -2,4 +2,3 @@ pub mod Record
 pub mod Replies
 pub mod Requests
 pub mod Table
-pub mod History

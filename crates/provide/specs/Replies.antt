@@ -2,7 +2,6 @@
 use Rattle.std.specs.Prelude.{ℕ, ◌+◌, ◌-◌, false, List, [], ◌∷◌, ◌++◌, map, eqb, ltb, length}
 use Rattle.laws.specs.When.{when, unless}
 use Rattle.lists.specs.Parts.{div_ceil}
-use Rattle.asdu.specs.Codes.{SECTION_WITHOUT_DEACTIVATION, FILE_WITHOUT_DEACTIVATION}
 use Rattle.asdu.specs.Sizes.{segment_limit}
 use Rattle.asdu.specs.declared.Nos.{Nos}
 use Rattle.asdu.specs.declared.FtError.TheVariants as E
@@ -17,8 +16,6 @@ use Rattle.provide.specs.Record.{file_agrees}
 use Rattle.provide.specs.declared.Provider.{Provider}
 use Rattle.requests.specs.declared.Reply.{Reply}
 use Rattle.requests.specs.declared.Reply.TheVariants.{Nothing, FileReady, SectionReady, Section, FileClose}
-use Rattle.requests.specs.declared.ProviderAnswer.{ProviderAnswer}
-use Rattle.requests.specs.declared.ProviderAnswer.TheVariants as P
 use Rattle.provide.specs.declared.CountResult.{CountResult}
 use Rattle.provide.specs.declared.CountResult.TheVariants as C
 use Rattle.provide.specs.declared.FrameResult.{FrameResult}
@@ -42,7 +39,7 @@ section_ready p file nos =
 abbrev pub segment_frame : Provider → Nos → List ℕ → Frame
 segment_frame p nos o = F.Segment p.ioa p.nof nos (record { value = length o })
 
--- the close of a section or of the file, by LSQ, with the sum of its octets
+-- the last segment of a section (LSQ 3) or the last section of the file (LSQ 1), with the sum of the octets
 abbrev pub close_frame : Provider → Nos → ℕ → List ℕ → Frame
 close_frame p nos lsq o = F.LastSection p.ioa p.nof nos (record { value = lsq }) (record { value = checksum o })
 
@@ -68,17 +65,8 @@ replies p file Nothing = []
 replies p file FileReady = bare (file_ready p) ∷ []
 replies p file (SectionReady nos) = bare (section_ready p file nos) ∷ []
 replies p file (Section nos) =
-    map (segment_packet p nos) (segments (limit_of p) (octets_of p file nos)) ++ (bare (close_frame p nos SECTION_WITHOUT_DEACTIVATION (octets_of p file nos)) ∷ [])
-replies p file (FileClose nos) = bare (close_frame p nos FILE_WITHOUT_DEACTIVATION file) ∷ []
-
--- what goes out with an answer
-abbrev pub provider_sends : Provider → List ℕ → ProviderAnswer → List Packet
-provider_sends p file (P.Running r) = replies p file r
-provider_sends p file P.Complete = []
-provider_sends p file (P.Deactivated q) = []
-provider_sends p file (P.FileRejected q) = []
-provider_sends p file (P.Refused cause mirror) = []
-provider_sends p file (P.Err e) = []
+    map (segment_packet p nos) (segments (limit_of p) (octets_of p file nos)) ++ (bare (close_frame p nos 3 (octets_of p file nos)) ∷ [])
+replies p file (FileClose nos) = bare (close_frame p nos 1 file) ∷ []
 
 -- ---- by index
 
@@ -109,7 +97,7 @@ segment_of p file nos i = segment_octets (limit_of p) (octets_of p file nos) i
 unfoldable pub section_frame : Provider → List ℕ → Nos → ℕ → FrameResult
 section_frame p file nos i =
     when (ltb i (segment_count p file nos)) (Ok (segment_frame p nos (segment_of p file nos i)))
-    (when (eqb i (segment_count p file nos)) (Ok (close_frame p nos SECTION_WITHOUT_DEACTIVATION (octets_of p file nos)))
+    (when (eqb i (segment_count p file nos)) (Ok (close_frame p nos 3 (octets_of p file nos)))
     (Err E.IndexOutOfRange))
 
 abbrev pub frame_at : Provider → List ℕ → Reply → ℕ → FrameResult
@@ -117,7 +105,7 @@ frame_at p file Nothing i = Err E.IndexOutOfRange
 frame_at p file FileReady i = only (file_ready p) i
 frame_at p file (SectionReady nos) i = only (section_ready p file nos) i
 frame_at p file (Section nos) i = section_frame p file nos i
-frame_at p file (FileClose nos) i = only (close_frame p nos FILE_WITHOUT_DEACTIVATION file) i
+frame_at p file (FileClose nos) i = only (close_frame p nos 1 file) i
 
 -- 26 first; an index not below the count is 9
 unfoldable pub reply_frame : Provider → List ℕ → Reply → ℕ → FrameResult

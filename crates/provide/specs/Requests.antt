@@ -1,4 +1,4 @@
--- What a Provider makes of a received frame (document 01, The Provider's record; the file transfer of IEC 60870-5-5, 6.12, as 60870-5-101, 7.4.11, selects it).
+-- What a Provider makes of a received frame (document 01, The Provider's record; IEC 60870-5-101, 7.4.11).
 use Rattle.std.specs.Prelude.{ℕ, Bool, true, false, List, eqb}
 use Rattle.laws.specs.When.{when, unless, ◌and◌}
 use Rattle.asdu.specs.declared.Nos.{Nos}

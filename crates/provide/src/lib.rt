@@ -1,6 +1,5 @@
-// The providing side of a file transfer (IEC 60870-5-5, 6.12, and 60870-5-101, 7.4.11): one file, cut
-// into sections, and what a Provider answers to the requests for it. The file's octets are lent to each
-// call.
+// The providing side of a file transfer (IEC 60870-5-101, 7.4.11): one file, cut into sections, and
+// what a Provider answers to the requests for it. The file's octets are lent to each call.
 mod frames; // the frames of a reply, by their index
 mod record; // the Provider's record, its making and its agreement with the lent file
 mod request; // what a Provider makes of a received frame

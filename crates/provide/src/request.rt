@@ -1,5 +1,5 @@
-// What a Provider makes of a received frame (IEC 60870-5-5, 6.12, and 60870-5-101, 7.4.11): the
-// requests and acknowledgements of its own file are answered, one for another file is counted.
+// What a Provider makes of a received frame (IEC 60870-5-101, 7.4.11): the requests and
+// acknowledgements of its own file are answered, one for another file is counted.
 ghost use Rattle.std.specs.Prelude.{◌≡◌};
 ghost use Rattle.provide.specs.Requests.{replying, answered_with, on_ack, is_ours, on_ours, on_request, on_requested, provide_admitted, provide};
 ghost use Rattle.requests.specs.declared.Reply.TheVariants.{Nothing};

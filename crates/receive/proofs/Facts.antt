@@ -2,8 +2,8 @@
 use Prim.Native.Nat.{ℕ, ◌+◌, ◌≤◌, ◌<◌}
 use mathlib.Core.Path.{◌≡◌, refl, sym, ◌∙◌}
 use mathlib.Core.Logic.{◌≢◌}
-use mathlib.Core.Bool.{true, false, true≢false}
-use mathlib.Core.List.{List, [], ◌++◌}
+use mathlib.Core.Bool.{true, false}
+use mathlib.Core.List.{List, ◌++◌}
 use native.Mathlib.Omega.{arith}
 use native.Mathlib.Decide.{dec_le}
 use lib.Dec.{leb}
@@ -11,37 +11,30 @@ use lib.ListN.{length, drop, length-append}
 use borrow.Author.Tests.{eq-eqb, ne_eqb, le-leb, lt-leb}
 use Rattle.laws.specs.When.{when, unless}
 use Rattle.laws.proofs.Decide.{when_true}
-use Rattle.asdu.specs.declared.Nof.{Nof}
 use Rattle.asdu.specs.declared.Nos.{Nos}
-use Rattle.asdu.specs.declared.Los.{Los}
 use Rattle.asdu.specs.declared.Chs.{Chs}
 use Rattle.asdu.specs.declared.Header.{Header}
 use Rattle.asdu.specs.declared.UnknownField.{UnknownField}
 use Rattle.asdu.specs.declared.FtError.TheVariants as E
 use Rattle.frame.specs.declared.Frame.{Frame}
-use Rattle.frame.specs.declared.Frame.TheVariants as F
 use Rattle.checksum.specs.Checksum.{checksum}
 use Rattle.ft.specs.Admission.{on_answer}
-use Rattle.ft.specs.Input.{Input}
 use Rattle.ft.specs.declared.Received.TheVariants as D
 use Rattle.ft.specs.declared.Reaction.TheVariants as A
-use Rattle.acceptance.specs.Closed.{held_of, section_closed, file_closed}
+use Rattle.acceptance.specs.Closed.{holds, section_closed, file_closed}
 use Rattle.acceptance.specs.declared.Held.{Held}
 use Rattle.receive.specs.Record.{store_agrees, holding, acknowledge, awaited, stepped}
-use Rattle.receive.specs.Answers.{Outcome, asks, closing, leaving, on_section_close, on_file_close, on_segment, told_by_frame, on_told, receive, sends, to_send}
-use Rattle.receive.specs.History.{to_receiver, receiver_called}
-use Rattle.receive.specs.declared.answered.Told.TheVariants as C
+use Rattle.receive.specs.Answers.{asks, closing, leaving, on_section_close, on_file_close, on_segment, on_answered, receive, to_send}
 use Rattle.receive.specs.declared.Sent.TheVariants.{Acknowledgement}
 use Rattle.receive.specs.declared.ToSend.TheVariants as T
 use Rattle.receive.specs.declared.Receiver.{Receiver}
 use Rattle.receive.specs.declared.ReceiverAnswer.TheVariants.{Running, Complete, FileChecksum, Err}
-use Rattle.receive.proofs.Changes.{Taken, every_call}
 use Rattle.receive.proofs.StoreLaws.{written_after, staged_part, kept_part}
 
 -- an answer to what was asked is acted upon
 pub answer_heard : (r : Receiver) (store : List ℕ) (h : Header) (unknown : UnknownField) (f : Frame) (beside : List ℕ)
     → store_agrees r store ≡ true → r.done ≡ false → on_answer r.procedure h unknown (D.Frame f) beside (awaited r) ≡ A.Answered
-    → receive r store h unknown (D.Frame f) beside ≡ on_told r store beside (told_by_frame f)
+    → receive r store h unknown (D.Frame f) beside ≡ on_answered r store beside f
 unfolding receive when
 answer_heard r store h unknown f beside agrees goes admitted = simp (agrees, goes, admitted)
 
@@ -55,7 +48,7 @@ pub rejection_sends : (r : Receiver) (h : Held) (nos : Nos) (expected got : Chs)
 unfolding to_send awaited when
 rejection_sends r h nos expected got = refl
 
-module _ (r : Receiver) (acc sec rest : List ℕ) (held : r.held ≡ held_of acc sec) where
+module _ (r : Receiver) (acc sec rest : List ℕ) (kept : r.kept ≡ length acc) (staged : r.staged ≡ length sec) where
   abbrev store : List ℕ
   store = acc ++ (sec ++ rest)
 
@@ -67,20 +60,20 @@ module _ (r : Receiver) (acc sec rest : List ℕ) (held : r.held ≡ held_of acc
 
   -- a section's close: the sum of what is under way accepts it, any other drops it
   pub section_accepted : (nos : Nos) (chs : Chs) → checksum sec ≡ chs.value
-      → on_section_close r store nos chs ≡ asks (holding r (held_of (acc ++ sec) [])) (Acknowledgement 3 nos)
+      → on_section_close r store nos chs ≡ asks (holding r (length acc + length sec) 0) (Acknowledgement 3 nos)
   unfolding on_section_close section_closed when
-  section_accepted nos chs e = simp (held, all_held, staged_part acc sec rest, eq-eqb (checksum sec) chs.value e, length-append acc sec)
+  section_accepted nos chs e = simp (kept, staged, all_held, staged_part acc sec rest, eq-eqb (checksum sec) chs.value e)
 
   pub section_dropped : (nos : Nos) (chs : Chs) → checksum sec ≢ chs.value
-      → on_section_close r store nos chs ≡ asks (holding r (held_of acc [])) (Acknowledgement 4 nos)
+      → on_section_close r store nos chs ≡ asks (holding r (length acc) 0) (Acknowledgement 4 nos)
   unfolding on_section_close section_closed when
-  section_dropped nos chs e = simp (held, all_held, staged_part acc sec rest, ne_eqb (checksum sec) chs.value e)
+  section_dropped nos chs e = simp (kept, staged, all_held, staged_part acc sec rest, ne_eqb (checksum sec) chs.value e)
 
   -- the file's close: the sum of what is accepted, whatever is under way
   pub file_accepted : (nos : Nos) (chs : Chs) → checksum acc ≡ chs.value
-      → on_file_close r store nos chs ≡ stepped (closing r (held_of acc []) (Acknowledgement 1 nos)) (Complete (length acc))
+      → on_file_close r store nos chs ≡ stepped (closing r (holds (length acc) 0) (Acknowledgement 1 nos)) (Complete (length acc))
   unfolding on_file_close file_closed when
-  file_accepted nos chs e = simp (held, all_held, kept_part acc sec rest, eq-eqb (checksum acc) chs.value e)
+  file_accepted nos chs e = simp (kept, staged, all_held, kept_part acc sec rest, eq-eqb (checksum acc) chs.value e)
 
   -- a segment is written behind what is under way where the rest can take it, and is refused exactly where it cannot
   room_test : (o : List ℕ) → leb (length acc + length sec + length o) (length store) ≡ leb (length o) (length rest)
@@ -98,34 +91,11 @@ module _ (r : Receiver) (acc sec rest : List ℕ) (held : r.held ≡ held_of acc
   pub segment : (o : List ℕ)
       → on_segment r store o
       ≡ unless (leb (length o) (length rest)) (leaving store (stepped r (Err E.StoreFull)))
-      (leaving (acc ++ ((sec ++ o) ++ drop (length o) rest)) (stepped (holding r (held_of acc (sec ++ o))) Running))
+      (leaving (acc ++ ((sec ++ o) ++ drop (length o) rest)) (stepped (holding r (length acc) (length sec + length o)) Running))
   unfolding on_segment
-  segment o = simp (held, room_test o, written_after acc sec rest o, length-append sec o)
+  segment o = simp (kept, staged, room_test o, written_after acc sec rest o)
 
   pub segment_taken : (o : List ℕ) → length o ≤ length rest
       → on_segment r store o
-      ≡ leaving (acc ++ ((sec ++ o) ++ drop (length o) rest)) (stepped (holding r (held_of acc (sec ++ o))) Running)
+      ≡ leaving (acc ++ ((sec ++ o) ++ drop (length o) rest)) (stepped (holding r (length acc) (length sec + length o)) Running)
   segment_taken o fits = segment o ∙ when_true _ _ _ (le-leb (length o) (length rest) fits)
-
--- a segment is answered with no frame, whatever comes of it
-module _ (r : Receiver) (store : List ℕ) (x : Input) (ioa : ℕ) (nof : Nof) (nos : Nos) (los : Los) (is : x.received ≡ D.Frame (F.Segment ioa nof nos los)) where
-  record Silent (o : Outcome) : Type 0 where
-    silent : sends o.step.answer ≡ false
-
-  -- and so no other frame is taken
-  no_other : (f : Frame) → told_by_frame f ≢ C.Segment → Taken r store (to_receiver x) f → ⊥
-  no_other f differs t = let same : F.Segment ioa nof nos los ≡ f = cc (is, t.handed) in differs (rw (← same))
-
-  pub segment_silent : sends (receiver_called r store (to_receiver x)).step.answer ≡ false
-  segment_silent =
-      (every_call Silent r store (to_receiver x)
-      (record {
-        stays = λ a quiet. record { silent = quiet };
-        begins = λ begun. let z : true ≡ false = cc begun in absurd (true≢false z);
-        ends = λ going a quiet none. record { silent = quiet };
-        file_called = λ t. absurd (no_other _ (λ e. let z : true ≡ false = cc e in true≢false z) t);
-        section_called = λ t. absurd (no_other _ (λ e. let z : true ≡ false = cc e in true≢false z) t);
-        section_closed_lem = λ nos chs t. absurd (no_other _ (λ e. let z : true ≡ false = cc e in true≢false z) t);
-        file_closed_lem = λ nos chs t closes. absurd (no_other _ (λ e. let z : true ≡ false = cc e in true≢false z) t);
-        segment = λ t o room. record { silent = refl };
-      })).silent

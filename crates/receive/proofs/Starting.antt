@@ -25,7 +25,7 @@ use Rattle.receive.specs.declared.ReceiverAnswer.TheVariants.{Send, Err}
 pub record Agrees (r : Receiver) (store : List ℕ) : Type 0 where
   pub settings : settled r.procedure ≡ true
   pub object : leb r.ioa (max_ioa r.procedure.sizes) ≡ true
-  pub held : leb (r.held.kept + r.held.staged) (length store) ≡ true
+  pub held : leb (r.kept + r.staged) (length store) ≡ true
 
 pub agrees : (r : Receiver) (store : List ℕ) → store_agrees r store ≡ true → Agrees r store
 unfolding store_agrees
@@ -34,8 +34,8 @@ agrees r store e =
     let o = both _ _ s.1 in
     record { settings = s.0; object = o.0; held = o.1 }
 
-pub agrees_held : (r : Receiver) (store : List ℕ) → store_agrees r store ≡ true → r.held.kept + r.held.staged ≤ length store
-agrees_held r store e = leb-true (r.held.kept + r.held.staged) (length store) (agrees r store e).held
+pub agrees_held : (r : Receiver) (store : List ℕ) → store_agrees r store ≡ true → r.kept + r.staged ≤ length store
+agrees_held r store e = leb-true (r.kept + r.staged) (length store) (agrees r store e).held
 
 started_when : (r : Receiver) (u s : Bool) (a : Asdu)
     → started_with r (unless u (A.Err E.FunctionNotUsed) (unless s (A.Err E.NotSelectedDirection) (A.Ok a)))

@@ -1,7 +1,7 @@
--- What a Receiver makes of a received frame, with the store after it (document 01, The Receiver's record; the file transfer of IEC 60870-5-5, 6.12, as 60870-5-101, 7.4.11, selects it).
-use Rattle.std.specs.Prelude.{ℕ, ◌+◌, Bool, true, false, List, [], ◌∷◌, leb, length}
-use Rattle.laws.specs.When.{when, unless}
-use Rattle.asdu.specs.Codes.{REQUEST_FILE, REQUEST_SECTION, FILE_POSITIVE, FILE_NEGATIVE, SECTION_POSITIVE, SECTION_NEGATIVE, lsq_of_section, lsq_of_file}
+-- What a Receiver makes of a received frame, with the store after it (document 01, The Receiver's record; IEC 60870-5-101, 7.4.11).
+use Rattle.std.specs.Prelude.{ℕ, ◌+◌, Bool, true, false, List, eqb, leb, length}
+use Rattle.laws.specs.When.{when, unless, ◌or◌}
+use Rattle.asdu.specs.Codes.{REQUEST_FILE, REQUEST_SECTION, FILE_POSITIVE, FILE_NEGATIVE, SECTION_POSITIVE, SECTION_NEGATIVE}
 use Rattle.asdu.specs.declared.Nos.{Nos}
 use Rattle.asdu.specs.declared.Lof.{Lof}
 use Rattle.asdu.specs.declared.Frq.{Frq}
@@ -13,7 +13,7 @@ use Rattle.asdu.specs.declared.UnknownField.{UnknownField}
 use Rattle.asdu.specs.declared.FtError.TheVariants as E
 use Rattle.frame.specs.declared.Frame.{Frame}
 use Rattle.frame.specs.declared.Frame.TheVariants as F
-use Rattle.acceptance.specs.Closed.{gaining, dropping, section_closed, file_closed}
+use Rattle.acceptance.specs.Closed.{section_closed, file_closed}
 use Rattle.acceptance.specs.declared.Held.{Held}
 use Rattle.acceptance.specs.declared.SectionClosed.{SectionClosed}
 use Rattle.acceptance.specs.declared.SectionClosed.TheVariants.{Accepted, Dropped}
@@ -24,16 +24,14 @@ use Rattle.ft.specs.declared.Received.{Received}
 use Rattle.ft.specs.declared.Received.TheVariants as D
 use Rattle.ft.specs.declared.Reaction.{Reaction}
 use Rattle.ft.specs.declared.Reaction.TheVariants as A
-use Rattle.receive.specs.Record.{store_agrees, awaiting, holding, stating, ended, awaited, stepped}
+use Rattle.receive.specs.Record.{store_agrees, awaiting, holding, stating, ended, held_by, awaited, stepped}
 use Rattle.store.specs.Store.{written}
 use Rattle.receive.specs.declared.Sent.{Sent}
 use Rattle.receive.specs.declared.Sent.TheVariants.{Request, Acknowledgement}
 use Rattle.receive.specs.declared.Receiver.{Receiver}
 use Rattle.receive.specs.declared.ReceiverStep.{ReceiverStep}
-use Rattle.receive.specs.declared.answered.Told.{Told}
-use Rattle.receive.specs.declared.answered.Told.TheVariants as T
 use Rattle.receive.specs.declared.ToSend.{ToSend}
-use Rattle.receive.specs.declared.ToSend.TheVariants as O
+use Rattle.receive.specs.declared.ToSend.TheVariants as T
 use Rattle.receive.specs.declared.ReceiverAnswer.{ReceiverAnswer}
 use Rattle.receive.specs.declared.ReceiverAnswer.TheVariants.{Running, Send, Complete, FileNotReady, SectionNotReady, FileChecksum, UnknownLsq, Refused, Err}
 
@@ -51,19 +49,19 @@ on_file_ready r lof frq =
 -- a section is ready, or it is not; one under way is dropped
 unfoldable pub on_section_ready : Receiver → Nos → Srq → ReceiverStep
 on_section_ready r nos srq =
-    when srq.not_ready (stepped (ended r) (SectionNotReady nos srq)) (asks (holding r (dropping r.held)) (Request REQUEST_SECTION nos))
+    when srq.not_ready (stepped (ended r) (SectionNotReady nos srq)) (asks (holding r r.kept 0) (Request REQUEST_SECTION nos))
 
 -- a section's close: one that is accepted is acknowledged positively, one that is dropped negatively
 abbrev pub after_section_close : Receiver → Nos → SectionClosed → ReceiverStep
-after_section_close r nos (Accepted h) = asks (holding r h) (Acknowledgement SECTION_POSITIVE nos)
-after_section_close r nos (Dropped h) = asks (holding r h) (Acknowledgement SECTION_NEGATIVE nos)
+after_section_close r nos (Accepted h) = asks (holding r h.kept h.staged) (Acknowledgement SECTION_POSITIVE nos)
+after_section_close r nos (Dropped h) = asks (holding r h.kept h.staged) (Acknowledgement SECTION_NEGATIVE nos)
 
 unfoldable pub on_section_close : Receiver → List ℕ → Nos → Chs → ReceiverStep
-on_section_close r store nos chs = after_section_close r nos (section_closed r.held store chs)
+on_section_close r store nos chs = after_section_close r nos (section_closed (held_by r) store chs)
 
 -- the transfer is over: with this held, and this acknowledgement sent
 abbrev pub closing : Receiver → Held → Sent → Receiver
-closing r h ack = ended (awaiting (holding r h) ack)
+closing r h ack = ended (awaiting (holding r h.kept h.staged) ack)
 
 -- the file's close: a whole file is acknowledged positively, one whose sum differs negatively
 abbrev pub after_file_close : Receiver → Nos → Chs → FileClosed → ReceiverStep
@@ -71,13 +69,13 @@ after_file_close r nos chs (Whole h) = stepped (closing r h (Acknowledgement FIL
 after_file_close r nos chs (Differs expected h) = stepped (closing r h (Acknowledgement FILE_NEGATIVE nos)) (FileChecksum expected chs)
 
 unfoldable pub on_file_close : Receiver → List ℕ → Nos → Chs → ReceiverStep
-on_file_close r store nos chs = after_file_close r nos chs (file_closed r.held store chs)
+on_file_close r store nos chs = after_file_close r nos chs (file_closed (held_by r) store chs)
 
--- by LSQ the close is a section's or the file's; any other value ends the transfer
+-- by LSQ: 3 and 4 close a section, 1 and 2 the file; any other ends the transfer
 unfoldable pub on_close : Receiver → List ℕ → Nos → Lsq → Chs → ReceiverStep
 on_close r store nos lsq chs =
-    when (lsq_of_section lsq) (on_section_close r store nos chs)
-    (when (lsq_of_file lsq) (on_file_close r store nos chs)
+    when (eqb lsq.value 3 or eqb lsq.value 4) (on_section_close r store nos chs)
+    (when (eqb lsq.value 1 or eqb lsq.value 2) (on_file_close r store nos chs)
     (stepped (ended r) (UnknownLsq lsq)))
 
 -- ---- record, answer and store together
@@ -92,51 +90,39 @@ leaving store s = record { step = s; store = store }
 -- a segment is written after what is held: 24 where the store cannot take it
 unfoldable pub on_segment : Receiver → List ℕ → List ℕ → Outcome
 on_segment r store payload =
-    unless (leb (r.held.kept + r.held.staged + length payload) (length store)) (leaving store (stepped r (Err E.StoreFull)))
-    (leaving (written store (r.held.kept + r.held.staged) payload) (stepped (holding r (gaining r.held payload)) Running))
+    unless (leb (r.kept + r.staged + length payload) (length store)) (leaving store (stepped r (Err E.StoreFull)))
+    (leaving (written store (r.kept + r.staged) payload) (stepped (holding r r.kept (r.staged + length payload)) Running))
 
--- ---- what a received frame tells: only what the step needs of it
+abbrev pub on_answered : Receiver → List ℕ → List ℕ → Frame → Outcome
+on_answered r store payload (F.FileReady ioa nof lof frq) = leaving store (on_file_ready r lof frq)
+on_answered r store payload (F.SectionReady ioa nof nos lof srq) = leaving store (on_section_ready r nos srq)
+on_answered r store payload (F.Sc ioa nof nos scq) = leaving store (stepped r Running)
+on_answered r store payload (F.LastSection ioa nof nos lsq chs) = leaving store (on_close r store nos lsq chs)
+on_answered r store payload (F.Ack ioa nof nos afq) = leaving store (stepped r Running)
+on_answered r store payload (F.Segment ioa nof nos los) = on_segment r store payload
+on_answered r store payload (F.Directory ioa cause) = leaving store (stepped r Running)
+on_answered r store payload (F.QueryLog ioa nof start stop) = leaving store (stepped r Running)
 
--- by the frame, where it answers the one sent
-abbrev pub told_by_frame : Frame → Told
-told_by_frame (F.FileReady ioa nof lof frq) = T.FileReady lof frq
-told_by_frame (F.SectionReady ioa nof nos lof srq) = T.SectionReady nos srq
-told_by_frame (F.Sc ioa nof nos scq) = T.Nothing
-told_by_frame (F.LastSection ioa nof nos lsq chs) = T.Close nos lsq chs
-told_by_frame (F.Ack ioa nof nos afq) = T.Nothing
-told_by_frame (F.Segment ioa nof nos los) = T.Segment
-told_by_frame (F.Directory ioa cause) = T.Nothing
-told_by_frame (F.QueryLog ioa nof start stop) = T.Nothing
+-- an answer is a frame: admission has refused what is undecodable
+abbrev pub on_received : Receiver → List ℕ → List ℕ → Received → Outcome
+on_received r store payload (D.Frame f) = on_answered r store payload f
+on_received r store payload D.Undecodable = leaving store (stepped r Running)
 
--- admission refuses what is undecodable, so the second case never comes
-abbrev pub told_by : Received → Told
-told_by (D.Frame f) = told_by_frame f
-told_by D.Undecodable = T.Nothing
-
--- by what admission makes of it
-abbrev pub told_of : Received → Reaction → Told
-told_of received A.Requested = T.Nothing
-told_of received A.Answered = told_by received
-told_of received (A.Refused cause mirror) = T.Refused cause mirror
-told_of received (A.Discard why) = T.Nothing
-told_of received A.Other = T.Nothing
-told_of received (A.Err e) = T.Err e
-
-abbrev pub on_told : Receiver → List ℕ → List ℕ → Told → Outcome
-on_told r store payload T.Nothing = leaving store (stepped r Running)
-on_told r store payload (T.FileReady lof frq) = leaving store (on_file_ready r lof frq)
-on_told r store payload (T.SectionReady nos srq) = leaving store (on_section_ready r nos srq)
-on_told r store payload (T.Close nos lsq chs) = leaving store (on_close r store nos lsq chs)
-on_told r store payload T.Segment = on_segment r store payload
-on_told r store payload (T.Refused cause mirror) = leaving store (stepped (ended r) (Refused cause mirror))
-on_told r store payload (T.Err e) = leaving store (stepped r (Err e))
+-- by what admission makes of the frame
+abbrev pub receive_admitted : Receiver → List ℕ → List ℕ → Received → Reaction → Outcome
+receive_admitted r store payload received A.Requested = leaving store (stepped r Running)
+receive_admitted r store payload received A.Answered = on_received r store payload received
+receive_admitted r store payload received (A.Refused cause mirror) = leaving store (stepped (ended r) (Refused cause mirror))
+receive_admitted r store payload received (A.Discard why) = leaving store (stepped r Running)
+receive_admitted r store payload received A.Other = leaving store (stepped r Running)
+receive_admitted r store payload received (A.Err e) = leaving store (stepped r (Err e))
 
 -- one frame handed to the Receiver, with what stands beside it: 26 first, then a done record is answered with nothing, then admission with 23; 24 last
 unfoldable pub receive : Receiver → List ℕ → Header → UnknownField → Received → List ℕ → Outcome
 receive r store h unknown received beside =
     unless (store_agrees r store) (leaving store (stepped r (Err E.RecordMismatch)))
     (when r.done (leaving store (stepped r Running))
-    (on_told r store beside (told_of received (on_answer r.procedure h unknown received beside (awaited r)))))
+    (receive_admitted r store beside received (on_answer r.procedure h unknown received beside (awaited r))))
 
 -- ---- what a step sends
 
@@ -154,15 +140,7 @@ sends (Err e) = false
 
 -- it is the one whose answer the record now awaits
 unfoldable pub to_send : ReceiverStep → ToSend
-to_send s = when (sends s.answer) (O.Frame (awaited s.receiver)) O.Nothing
-
--- as a list of one frame or none
-abbrev pub frames : ToSend → List Frame
-frames O.Nothing = []
-frames (O.Frame f) = f ∷ []
-
-abbrev pub frames_by_receiver : ReceiverStep → List Frame
-frames_by_receiver s = frames (to_send s)
+to_send s = when (sends s.answer) (T.Frame (awaited s.receiver)) T.Nothing
 
 -- whether an answer is a numbered refusal
 abbrev pub is_refusal : ReceiverAnswer → Bool

@@ -6,7 +6,7 @@ use Rattle.asdu.specs.Codes.{SELECT_FILE}
 use Rattle.asdu.specs.declared.Nof.{Nof}
 use Rattle.asdu.specs.declared.Nos.{Nos}
 use Rattle.asdu.specs.declared.FtError.TheVariants as E
-use Rattle.acceptance.specs.Closed.{holds, accepted, is_held}
+use Rattle.acceptance.specs.Closed.{holds, accepted}
 use Rattle.acceptance.specs.declared.Held.{Held}
 use Rattle.frame.specs.declared.Frame.{Frame}
 use Rattle.frame.specs.declared.Frame.TheVariants as F
@@ -30,7 +30,7 @@ use Rattle.receive.specs.declared.ReceiverAnswer.TheVariants as R
 
 abbrev pub fresh_receiver : FileTransferProcedure → ℕ → Nof → Receiver
 fresh_receiver p ioa nof =
-    record { procedure = p; ioa = ioa; nof = nof; sent = S.Nothing; length = Unknown; held = holds 0 0; done = false }
+    record { procedure = p; ioa = ioa; nof = nof; sent = S.Nothing; length = Unknown; kept = 0; staged = 0; done = false }
 
 -- 2, then 3 for the own addresses and the object address
 unfoldable pub receiver_made : FileTransferProcedure → ℕ → Nof → ReceiverResult
@@ -44,36 +44,40 @@ unfoldable pub store_agrees : Receiver → List ℕ → Bool
 store_agrees r store =
     settled r.procedure
     and leb r.ioa (max_ioa r.procedure.sizes)
-    and is_held r.held store
+    and leb (r.kept + r.staged) (length store)
 
 -- ---- the record
 
 -- the same transfer with another state
-abbrev pub with_state : Receiver → Sent → Length → Held → Bool → Receiver
-with_state r sent len held done =
-    record { procedure = r.procedure; ioa = r.ioa; nof = r.nof; sent = sent; length = len; held = held; done = done }
+abbrev pub with_state : Receiver → Sent → Length → ℕ → ℕ → Bool → Receiver
+with_state r sent len kept staged done =
+    record { procedure = r.procedure; ioa = r.ioa; nof = r.nof; sent = sent; length = len; kept = kept; staged = staged; done = done }
 
 -- the answer to another is awaited
 abbrev pub awaiting : Receiver → Sent → Receiver
-awaiting r s = with_state r s r.length r.held r.done
+awaiting r s = with_state r s r.length r.kept r.staged r.done
 
 -- so many octets are accepted and under way
-abbrev pub holding : Receiver → Held → Receiver
-holding r h = with_state r r.sent r.length h r.done
+abbrev pub holding : Receiver → ℕ → ℕ → Receiver
+holding r kept staged = with_state r r.sent r.length kept staged r.done
 
 abbrev pub stating : Receiver → ℕ → Receiver
-stating r n = with_state r r.sent (Known n) r.held r.done
+stating r n = with_state r r.sent (Known n) r.kept r.staged r.done
 
 abbrev pub ended : Receiver → Receiver
-ended r = with_state r r.sent r.length r.held true
+ended r = with_state r r.sent r.length r.kept r.staged true
+
+-- what it holds of the store
+abbrev pub held_by : Receiver → Held
+held_by r = holds r.kept r.staged
 
 -- the octets accepted
 abbrev pub kept_octets : Receiver → List ℕ → List ℕ
-kept_octets r store = accepted r.held store
+kept_octets r store = accepted (held_by r) store
 
 -- how many octets have arrived so far; it stays at the largest number, as in the Rust
 unfoldable pub received_octets : Receiver → ℕ
-received_octets r = min 18446744073709551615 (r.held.kept + r.held.staged)
+received_octets r = min 18446744073709551615 (r.kept + r.staged)
 
 -- ---- what it sends
 

@@ -1,9 +1,10 @@
-// What a Receiver makes of each frame that answers it (IEC 60870-5-5, 6.12, and 60870-5-101, 7.4.11).
-ghost use Rattle.std.specs.Prelude.{◌≡◌};
-ghost use Rattle.asdu.specs.Codes.{lsq_of_section, lsq_of_file};
+// What a Receiver makes of each frame that answers it (IEC 60870-5-101, 7.4.11).
+ghost use Rattle.std.specs.Prelude.{◌≡◌, eqb};
+ghost use Rattle.laws.specs.When.{◌or◌};
 ghost use Rattle.ft.specs.Admission.{on_answer};
 ghost use Rattle.receive.specs.Record.{awaited, stepped};
-ghost use Rattle.receive.specs.Answers.{on_file_ready, on_section_ready, after_section_close, closing, after_file_close, on_close, on_segment, told_by_frame, told_by, told_of, on_told, receive};
+ghost use Rattle.receive.specs.Answers.{on_file_ready, on_section_ready, after_section_close, closing, after_file_close, on_close, on_segment, receive};
+ghost use Rattle.receive.specs.Told.{told_by_frame, told_by, told_of, on_told};
 
 use crate::{Receiver, ReceiverAnswer, ReceiverStep, Sent};
 use acceptance::{FileClosed, Held, SectionClosed};
@@ -67,7 +68,7 @@ fn told_of(received: Received, reaction: Reaction) -> Told
 
 // Whether the frame closes a section (7.2.6.31).
 fn closes_section(lsq: Lsq) -> bool
-    ensures { result ≡ lsq_of_section lsq }
+    ensures { result ≡ (eqb lsq.value 3 or eqb lsq.value 4) }
 {
     if lsq.value == Lsq::SECTION_WITHOUT_DEACTIVATION {
         return true;
@@ -77,7 +78,7 @@ fn closes_section(lsq: Lsq) -> bool
 
 // Whether the frame closes the file.
 fn closes_file(lsq: Lsq) -> bool
-    ensures { result ≡ lsq_of_file lsq }
+    ensures { result ≡ (eqb lsq.value 1 or eqb lsq.value 2) }
 {
     if lsq.value == Lsq::FILE_WITHOUT_DEACTIVATION {
         return true;
@@ -108,7 +109,7 @@ impl Receiver {
             return self.ends(ReceiverAnswer::SectionNotReady { nos, srq });
         }
         let mut next = self;
-        next.held.staged = 0;
+        next.staged = 0;
         next.asks(Sent::Request {
             action: Scq::REQUEST_SECTION,
             nos,
@@ -178,7 +179,10 @@ impl Receiver {
     fn on_close(self, store: &[u8], nos: Nos, lsq: Lsq, chs: Chs) -> ReceiverStep
         ensures { result ≡ on_close self store.now nos lsq chs }
     {
-        let held = self.held;
+        let held = Held {
+            kept: self.kept,
+            staged: self.staged,
+        };
         if closes_section(lsq) {
             let closed = acceptance::close_section(held, store, chs);
             return self.after_section_close(closed, nos);
@@ -194,11 +198,9 @@ impl Receiver {
     fn on_segment(self, store: &mut [u8], payload: &[u8]) -> ReceiverStep
         ensures { (result ≡ (on_segment self store.old payload.now).step) × (store.new ≡ (on_segment self store.old payload.now).store) }
     {
-        let held = self.held;
-        if store::write_at(store, held.kept, held.staged, payload) {
-            let staged = held.staged + payload.len();
+        if store::write_at(store, self.kept, self.staged, payload) {
             let mut next = self;
-            next.held.staged = staged;
+            next.staged = self.staged + payload.len();
             return next.runs();
         }
         self.refuses(FtError::StoreFull)

@@ -1,11 +1,9 @@
-// The receiving side of a file transfer (IEC 60870-5-5, 6.12, and 60870-5-101, 7.4.11): what a Receiver
-// asks for, checks and keeps. The store is lent to each call: the accepted octets first, then the
-// section under way.
+// The receiving side of a file transfer (IEC 60870-5-101, 7.4.11): what a Receiver asks for, checks
+// and keeps. The store is lent to each call: the accepted octets first, then the section under way.
 mod answered; // what a received frame does
 mod record; // the record: its making, what it holds and what it sends
 mod step; // what a step makes of the record
 
-use acceptance::Held;
 use asdu::{Cause, Chs, Frq, FtError, Lsq, Nof, Nos, Srq};
 use frame::Frame;
 use ft::FileTransferProcedure;
@@ -34,7 +32,9 @@ pub struct Receiver {
     // `awaited` makes the frame of it.
     pub sent: Sent,
     pub length: Length,
-    pub held: Held,
+    // Octets of the store that are accepted, and those after them that are under way.
+    pub kept: usize,
+    pub staged: usize,
     pub done: bool,
 }
 

@@ -4,7 +4,6 @@ ghost use Rattle.std.specs.Prelude.{◌≡◌};
 ghost use Rattle.receive.specs.Record.{fresh_receiver, receiver_made, store_agrees, received_octets, request, acknowledge, awaited, started};
 
 use crate::{Length, Receiver, ReceiverResult, ReceiverStep, Sent};
-use acceptance::Held;
 use asdu::{Afq, FtError, Nof, Nos, Scq};
 use frame::Frame;
 use ft::{FileTransferProcedure, procedure};
@@ -20,7 +19,8 @@ impl Receiver {
             nof,
             sent: Sent::Nothing,
             length: Length::Unknown,
-            held: Held { kept: 0, staged: 0 },
+            kept: 0,
+            staged: 0,
             done: false,
         }
     }
@@ -51,8 +51,7 @@ impl Receiver {
     pub fn received(self) -> usize
         ensures { result ≡ received_octets self }
     {
-        let held = self.held;
-        counts::saturating_sum(held.kept, held.staged)
+        counts::saturating_sum(self.kept, self.staged)
     }
 
     // Whether a making gives this record and the store holds its octets: else 26.
@@ -61,10 +60,9 @@ impl Receiver {
     {
         let procedure = self.procedure;
         let sizes = procedure.sizes;
-        let held = self.held;
         if procedure.is_settled() {
             if self.ioa <= sizes.max_ioa() {
-                return store::is_held(held.kept, held.staged, store.len());
+                return store::is_held(self.kept, self.staged, store.len());
             }
         }
         false

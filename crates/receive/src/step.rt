@@ -44,10 +44,11 @@ impl Receiver {
 
     // The record with so many octets accepted and under way.
     pub(crate) fn holding(self, held: Held) -> Receiver
-        ensures { result ≡ holding self held }
+        ensures { result ≡ holding self held.kept held.staged }
     {
         let mut next = self;
-        next.held = held;
+        next.kept = held.kept;
+        next.staged = held.staged;
         next
     }
 
@@ -58,14 +59,14 @@ impl Receiver {
         let procedure = self.procedure;
         let nof = self.nof;
         let length = self.length;
-        let held = self.held;
         Receiver {
             procedure,
             ioa: self.ioa,
             nof,
             sent,
             length,
-            held,
+            kept: self.kept,
+            staged: self.staged,
             done: self.done,
         }
     }
@@ -77,14 +78,14 @@ impl Receiver {
         let procedure = self.procedure;
         let nof = self.nof;
         let sent = self.sent;
-        let held = self.held;
         Receiver {
             procedure,
             ioa: self.ioa,
             nof,
             sent,
             length: Length::Known(length),
-            held,
+            kept: self.kept,
+            staged: self.staged,
             done: self.done,
         }
     }

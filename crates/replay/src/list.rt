@@ -1,7 +1,7 @@
 // The lines of a list: each is played as it is read.
 use directory_calls::{calling, paging};
 use frame_calls::{bodies, elements, frames, making, parts};
-use machine_calls::{layout, providing, receiving};
+use machine_calls::{providing, receiving};
 use octet_calls::{loads, pages};
 use station_calls::{kept, stations};
 use window_calls::kept::Places;
@@ -125,10 +125,9 @@ fn is_call(
 
 // ---- Lines
 
-// Plays the line of this number, and says whether it could be read.
+// Plays a line, and says whether it could be read.
 fn is_read(
     line: &[u8],
-    number: u64,
     regs: &mut Numbers,
     places: &mut Places,
     file: &mut Octets,
@@ -143,7 +142,7 @@ fn is_read(
     if is_call(line, regs, places, file, damage, store, octets) {
         return true;
     }
-    input::unread(line, number);
+    input::unread(line, at(regs, input::LINES, 0));
     false
 }
 
@@ -152,8 +151,7 @@ fn is_read(
 // Plays a list, up to the first line that cannot be read, and says whether all could.
 pub fn is_played(fd: i32) -> bool {
     let mut buffer = io::large_buffer();
-    let mut lines = [0u64; 128];
-    let mut regs = layout::fresh();
+    let mut regs = [0u64; 128];
     let mut places = [0u64; 259];
     let mut file = [0u8; 9216];
     let mut damage = [0u8; 9216];
@@ -161,15 +159,14 @@ pub fn is_played(fd: i32) -> bool {
     let mut octets = [0u8; 9216];
     let mut left: u32 = 0xFFFF_FFFF;
     while 0 < left {
-        if !input::is_line(fd, &mut buffer, &mut lines) {
+        if !input::is_line(fd, &mut buffer, &mut regs) {
             return true;
         }
-        let begin = at(&lines, input::BEGIN, 0) as usize;
-        let stop = at(&lines, input::STOP, 0) as usize;
+        let begin = at(&regs, input::BEGIN, 0) as usize;
+        let stop = at(&regs, input::BEGIN, 1) as usize;
         let line = input::line_in(&buffer, begin, stop);
         let is_whole = is_read(
             line,
-            at(&lines, input::LINES, 0),
             &mut regs,
             &mut places,
             &mut file,

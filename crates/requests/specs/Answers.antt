@@ -1,4 +1,4 @@
--- What a Provider decides on a request or an acknowledgement (document 01, The Provider's record; the file transfer of IEC 60870-5-5, 6.12, as 60870-5-101, 7.4.11, selects it).
+-- What a Provider decides on a request or an acknowledgement (document 01, The Provider's record; IEC 60870-5-101, 7.4.11).
 use Rattle.std.specs.Prelude.{ℕ, ◌+◌, Bool, true, false, eqb, ltb}
 use Rattle.laws.specs.When.{when}
 use Rattle.asdu.specs.Codes.{SELECT_FILE, REQUEST_FILE, SELECT_SECTION, REQUEST_SECTION, FILE_POSITIVE, SECTION_POSITIVE, SECTION_NEGATIVE}

@@ -1,5 +1,5 @@
-// What a Provider decides on a request or an acknowledgement for its file (IEC 60870-5-5, 6.12, and
-// 60870-5-101, 7.4.11): the answer alone, without the record that it is put beside.
+// What a Provider decides on a request or an acknowledgement for its file (IEC 60870-5-101, 7.4.11): the
+// answer alone, without the record that it is put beside.
 ghost use Rattle.std.specs.Prelude.{◌≡◌};
 ghost use Rattle.requests.specs.Answers.{is_over, sc_answer, after_section, ack_answer};
 

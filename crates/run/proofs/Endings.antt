@@ -22,6 +22,7 @@ use Rattle.sections.specs.Sections.{section_length, section_count}
 use Rattle.provide.specs.Record.{provider_made}
 use Rattle.provide.proofs.Building.{wide}
 use Rattle.provide.proofs.Making.{made}
+use Rattle.receive.specs.declared.Receiver.{Receiver}
 use Rattle.exchange.specs.Exchange.{Side, by_provider, by_receiver, Passing, Exchange, own_headers}
 use Rattle.exchange.specs.Transfer.{Sound, Transfer, sender_of}
 use Rattle.exchange.specs.Order.{InOrder}
@@ -30,7 +31,7 @@ use Rattle.exchange.proofs.Budget as B
 use Rattle.exchange.proofs.Damaging.{script_sendings}
 use Rattle.exchange.proofs.Ordering.{in_order}
 use Rattle.twoparty.specs.Party.{station_of, with_provider, party_made}
-use Rattle.run.specs.Loop.{Ran, accepted_count, ran_from}
+use Rattle.run.specs.Loop.{Ran, ran_from}
 use Rattle.radio.specs.Radio.{all_have_octets}
 use Rattle.run.specs.Run.{exchange_of, ending, refused, two_party, script_frames}
 use Rattle.twoparty.specs.declared.Settings.{Settings}
@@ -114,19 +115,16 @@ module _ (s : Settings) (file damage store : List ℕ) (a : Accepted s file dama
   unfoldable pub transfer : Transfer
   transfer =
       record {
-        parties =
-            record {
-              provider_station = station_of s s.role;
-              receiver_station = station_of s (other_role s.role);
-              object = s.ioa;
-              name = s.nof;
-              file = file;
-              provider = providing s file damage store;
-              provider_is_made = provider_is_made s file damage store a;
-              receiver = receiving s file damage store;
-              receiver_is_made = receiver_is_made s file damage store a;
-            };
+        provider_station = station_of s s.role;
+        receiver_station = station_of s (other_role s.role);
+        object = s.ioa;
+        name = s.nof;
+        file = file;
         store = store;
+        provider = providing s file damage store;
+        provider_is_made = provider_is_made s file damage store a;
+        receiver = receiving s file damage store;
+        receiver_is_made = receiver_is_made s file damage store a;
         roles = refl;
         widths = refl;
         provider_serves = provider_direction s s.role refl;
@@ -140,11 +138,11 @@ module _ (s : Settings) (file damage store : List ℕ) (a : Accepted s file dama
 
 -- ---- the ending of an exchange
 
-ending_whole : (e : Exchange) (n frames : ℕ) (store : List ℕ) → e.queue ≡ [] → accepted_count e.receiver ≡ n → length e.passed ≡ frames → e.store ≡ store
+ending_whole : (e : Exchange) (n frames : ℕ) (store : List ℕ) → e.queue ≡ [] → e.receiver.kept ≡ n → length e.passed ≡ frames → e.store ≡ store
     → ending e ≡ record { result = Whole n frames; store = store }
 ending_whole e n frames store none kept passed held = rw (none, kept, passed, held)
 
-ending_spent : (e : Exchange) (frames : ℕ) (q : List Passing) → e.queue ≡ q → q ≢ [] → length e.passed ≡ frames → (ending e).result ≡ Spent (accepted_count e.receiver) frames
+ending_spent : (e : Exchange) (frames : ℕ) (q : List Passing) → e.queue ≡ q → q ≢ [] → length e.passed ≡ frames → (ending e).result ≡ Spent frames
 ending_spent e frames [] is some passed = absurd (some refl)
 ending_spent e frames (x ∷ q) is some passed = rw (is, passed)
 
@@ -156,11 +154,9 @@ module _ (s : Settings) (file damage store : List ℕ) (a : Accepted s file dama
       let m : Transfer = transfer s file damage store a in
       accepted_run s file damage store a budget
       ∙ ending_whole (exchange_of s file damage store budget) (length file) (script_frames s file damage) (file ++ drop (length file) store)
-      (B.whole m budget h).over (ap accepted_count (B.whole m budget h).receiver_ended) (B.whole_frames m budget h) (B.whole m budget h).stored
+      (B.whole m budget h).over (ap (λ (r : Receiver). r.kept) (B.whole m budget h).receiver_ended) (B.whole_frames m budget h) (B.whole m budget h).stored
 
-  -- with the octets that the exchange's Receiver has accepted by then
-  pub run_spent : budget < script_frames s file damage
-      → (two_party s file damage store budget).result ≡ Spent (accepted_count (exchange_of s file damage store budget).receiver) budget
+  pub run_spent : budget < script_frames s file damage → (two_party s file damage store budget).result ≡ Spent budget
   unfolding script_frames transfer
   run_spent h =
       let m : Transfer = transfer s file damage store a in

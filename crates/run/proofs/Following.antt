@@ -12,12 +12,10 @@ use Rattle.asdu.specs.declared.Nos.{Nos}
 use Rattle.asdu.specs.declared.UnknownField.TheVariants as U
 use Rattle.frame.specs.declared.Frame.{Frame}
 use Rattle.ft.specs.Building.{header_of}
-use Rattle.ft.specs.Input.{Input}
 use Rattle.ft.specs.declared.Received.TheVariants as D
 use Rattle.ft.specs.declared.FileTransferProcedure.{FileTransferProcedure}
 use Rattle.provide.specs.Record.{file_agrees}
-use Rattle.provide.specs.Replies.{Packet, bare, file_ready, segment_frame, close_frame, octets_of, limit_of, segment_count, segment_of, replies, provider_sends, section_frame, reply_frame, reply_payload, payload_of}
-use Rattle.provide.specs.History.{provides}
+use Rattle.provide.specs.Replies.{Packet, bare, file_ready, segment_frame, close_frame, octets_of, limit_of, segment_count, segment_of, replies, section_frame, reply_frame, reply_payload, payload_of}
 use Rattle.sections.specs.Sections.{segments}
 use Rattle.provide.specs.declared.Provider.{Provider}
 use Rattle.provide.specs.Requests.{provide}
@@ -29,17 +27,13 @@ use Rattle.provide.specs.declared.FrameResult.TheVariants as F
 use Rattle.requests.specs.declared.Reply.{Reply}
 use Rattle.requests.specs.declared.Reply.TheVariants.{Nothing, FileReady, SectionReady, Section, FileClose}
 use Rattle.provide.proofs.Indexed.{count_is, replies_agree}
-use Rattle.provide.proofs.Keeping as ParamKind
 use Rattle.receive.specs.Record.{store_agrees, awaited, started}
-use Rattle.receive.specs.Answers.{Outcome, receive, sends, to_send, frames}
-use Rattle.receive.specs.History.{to_receiver, receiver_called}
-use Rattle.receive.proofs.Keeping as ResultKind
-use Rattle.receive.proofs.Facts.{segment_silent}
+use Rattle.receive.specs.Answers.{Outcome, receive, sends, to_send}
 use Rattle.receive.specs.declared.Receiver.{Receiver}
 use Rattle.receive.specs.declared.ReceiverAnswer.{ReceiverAnswer}
 use Rattle.receive.specs.declared.ReceiverStep.{ReceiverStep}
 use Rattle.receive.specs.declared.ToSend.TheVariants as T
-use Rattle.exchange.specs.Exchange.{by_receiver, Passing, untouched, receiver_sends, is_sending, Noise, on_the_way, sendings_left, Exchange, provided, taken, step_on, step, begun, own_headers}
+use Rattle.exchange.specs.Exchange.{by_receiver, Passing, untouched, provider_sends, packets_of, receiver_sends, is_sending, Noise, on_the_way, sendings_left, Exchange, provided, taken, step_on, step, begun, own_headers}
 use Rattle.exchange.proofs.Begins.{payloads_behind}
 use Rattle.delivery.specs.Handed.{header_by, arriving}
 use Rattle.twoparty.specs.Party.{started_party, asked, replied, after_provider, after_receiver, advanced}
@@ -49,6 +43,7 @@ use Rattle.twoparty.specs.declared.Queue.{Queue}
 use Rattle.twoparty.specs.declared.Queue.TheVariants as Q
 use Rattle.radio.specs.declared.Radio.{Radio}
 use Rattle.twoparty.specs.declared.TwoParty.{TwoParty}
+use Rattle.run.proofs.Machines.{station_same, agreement_same, Stays, receive_stays, agreement_stays, segment_silent}
 use Rattle.radio.proofs.Told.{told, bare_told, flown_none, told_past}
 use Rattle.twoparty.proofs.Passing.{passing_at}
 use Rattle.radio.proofs.Tuning.{Unnamed, Tuned, tuned_next, tuned_sent}
@@ -85,7 +80,7 @@ module _ (p : Provider) (file : List ℕ) where
     last : rest ≡ [] → Apart rest b
 
   chosen : (r r' : Receiver) (rest : Queue) (b : Bool) → queue_of p file r rest ≡ queue_of p file r' rest → Apart (queue_of p file r rest) b
-      → queue_of p file r rest ++ map (untouched by_receiver) (map bare (frames (when b (T.Frame (awaited r')) T.Nothing))) ≡ queue_of p file r' (when b Q.Receiver rest)
+      → queue_of p file r rest ++ map (untouched by_receiver) (packets_of (when b (T.Frame (awaited r')) T.Nothing)) ≡ queue_of p file r' (when b Q.Receiver rest)
   unfolding when
   chosen r r' rest false same h = append-nil (queue_of p file r rest) ∙ same
   chosen r r' rest true same (silent e) = absurd (true≢false e)
@@ -192,10 +187,8 @@ module _ (file damage : List ℕ) (ca count : ℕ) where
     unfolding advanced
     asks_on fits =
         let f : Frame = awaited r in
-        let x : Input = record { header = header_by r.procedure f; unknown = U.Nothing; received = D.Frame f; beside = [] } in
-        let s : ProviderStep = provides p file x in
-        let kept : ParamKind.ProviderOf p.procedure p.ioa p.nof file s.provider =
-        ParamKind.frame_keeps p.procedure p.ioa p.nof file p (record { at = refl; of_object = refl; of_name = refl; agrees = fits.agrees }) x in
+        let s : ProviderStep = provide p file (header_by r.procedure f) U.Nothing (D.Frame f) [] in
+        let same : s.provider.procedure ≡ p.procedure = station_same p file (header_by r.procedure f) U.Nothing (D.Frame f) [] in
         record {
           radio' = sendings_left (is_sending s.answer) radio;
           u' = s.answer;
@@ -204,10 +197,10 @@ module _ (file damage : List ℕ) (ca count : ℕ) where
           tuned = still_tuned (is_sending s.answer);
           fits =
               record {
-                agrees = kept.agrees;
+                agrees = agreement_same p file (header_by r.procedure f) U.Nothing (D.Frame f) [] ∙ fits.agrees;
                 holds = fits.holds;
-                provider_ca = ap (λ (z : FileTransferProcedure). z.ca) kept.at ∙ fits.provider_ca;
-                provider_org = ap (λ (z : FileTransferProcedure). z.org) kept.at ∙ fits.provider_org;
+                provider_ca = ap (λ (z : FileTransferProcedure). z.ca) same ∙ fits.provider_ca;
+                provider_org = ap (λ (z : FileTransferProcedure). z.org) same ∙ fits.provider_org;
                 receiver_ca = fits.receiver_ca;
                 receiver_org = fits.receiver_org;
               };
@@ -242,15 +235,12 @@ module _ (file damage : List ℕ) (ca count : ℕ) where
       abbrev x : Packet
       x = packet_at p file reply i
 
-      abbrev given : Input
-      given = record { header = header_of ca 0 x.frame; unknown = U.Nothing; received = D.Frame x.frame; beside = arriving d i x.payload }
-
       abbrev outcome : Outcome
-      outcome = receiver_called r store (to_receiver given)
+      outcome = receive r store (header_of ca 0 x.frame) U.Nothing (D.Frame x.frame) (arriving d i x.payload)
 
       apart : Place p file reply i → Apart p file (queue_of p file r rest) (sends outcome.step.answer)
       apart (at_end h) = last (told_past d (i + 1) (replies p file reply) (omega arith))
-      apart (within nos o is) = silent (segment_silent r store given _ _ _ _ (ap (λ (f : Frame). D.Frame f) is))
+      apart (within nos o is) = silent (rw is (segment_silent r store (arriving d i x.payload) _ _ _ _ _))
 
       module _ (fits : Fits replying store) (h : i < length (replies p file reply)) where
         payload_is : payload_of file (reply_payload p file reply i) ≡ x.payload
@@ -260,10 +250,8 @@ module _ (file damage : List ℕ) (ca count : ℕ) where
         unfolding advanced
         moves = rw (frame_is p file fits.agrees reply i h, payload_is, fits.provider_ca, fits.provider_org)
 
-        heard : ResultKind.ReceiverOf r.procedure r.ioa r.nof outcome.step.receiver outcome.store
-        heard =
-            ResultKind.call_keeps r.procedure r.ioa r.nof r store (record { at = refl; of_object = refl; of_name = refl; agrees = fits.holds })
-            (to_receiver given)
+        heard : Stays r outcome
+        heard = receive_stays r store fits.holds (header_of ca 0 x.frame) U.Nothing (D.Frame x.frame) (arriving d i x.payload)
 
         tells : Next replying store radio ps u v (passing_at d i x)
         tells =
@@ -280,11 +268,11 @@ module _ (file damage : List ℕ) (ca count : ℕ) where
                   rw moves
                   (record {
                     agrees = fits.agrees;
-                    holds = heard.agrees;
+                    holds = agreement_stays r store fits.holds outcome heard;
                     provider_ca = fits.provider_ca;
                     provider_org = fits.provider_org;
-                    receiver_ca = ap (λ (z : FileTransferProcedure). z.ca) heard.at ∙ fits.receiver_ca;
-                    receiver_org = ap (λ (z : FileTransferProcedure). z.org) heard.at ∙ fits.receiver_org;
+                    receiver_ca = ap (λ (z : FileTransferProcedure). z.ca) heard.station ∙ fits.receiver_ca;
+                    receiver_org = ap (λ (z : FileTransferProcedure). z.org) heard.station ∙ fits.receiver_org;
                   });
             }
 

@@ -18,9 +18,9 @@ use Rattle.twoparty.specs.declared.TwoParty.{TwoParty}
 use Rattle.twoparty.specs.declared.Queue.{Queue}
 use Rattle.twoparty.specs.declared.Queue.TheVariants as Q
 use Rattle.twoparty.specs.declared.NextFrame.TheVariants as N
-use Rattle.twoparty.specs.Party.{first, next_frame, is_nothing, is_over, still, to_provider, after_receiver, advanced}
+use Rattle.twoparty.specs.Party.{first, next_frame, still, to_provider, after_receiver, advanced}
 use Rattle.delivery.specs.Handed.{receiver_handed}
-use Rattle.run.specs.Loop.{whole, used_up, ran_on}
+use Rattle.run.specs.Loop.{is_nothing, is_over, whole, used_up, ran_on}
 
 -- the record of these parts
 abbrev pub standing : Provider → Receiver → Queue → Radio → TwoParty

@@ -1,4 +1,6 @@
+pub mod Machines
 pub mod Left
+pub mod Counted
 pub mod Following
 pub mod Running
 pub mod Endings

@@ -9,30 +9,33 @@ use lib.ListN.{length, length-append}
 use borrow.Author.Tests.{le-leb}
 use Rattle.laws.specs.When.{when}
 use Rattle.asdu.specs.Sizes.{sizes_right}
+use Rattle.asdu.specs.declared.FtError.TheVariants as E
 use Rattle.ft.specs.Directions.{other_role}
 use Rattle.ft.specs.Procedure.{addressed}
-use Rattle.ft.specs.declared.FileTransferProcedure.{FileTransferProcedure}
+use Rattle.ft.specs.Building.{built}
+use Rattle.ft.specs.declared.AsduResult.{AsduResult}
+use Rattle.ft.specs.declared.AsduResult.TheVariants as A
 use Rattle.sections.specs.Sections.{section_length, section_count}
 use Rattle.provide.specs.Record.{fresh_provider, provider_made}
 use Rattle.requests.specs.declared.ProviderAnswer.{ProviderAnswer}
 use Rattle.provide.specs.declared.ProviderResult.TheVariants as PM
 use Rattle.provide.specs.declared.Provider.{Provider}
+use Rattle.provide.proofs.Making.{made, made_agrees}
 use Rattle.sections.proofs.SectionLaws.{some_section, few_sections}
-use Rattle.provide.proofs.Keeping as ParamKind
-use Rattle.receive.specs.Record.{fresh_receiver, receiver_made, started}
-use Rattle.receive.specs.History.{starts}
-use Rattle.receive.proofs.Keeping as ResultKind
+use Rattle.receive.specs.Record.{fresh_receiver, receiver_made, store_agrees, awaiting, opening, select, stepped, started_with, started}
+use Rattle.receive.proofs.Making as R
 use Rattle.receive.specs.declared.Receiver.{Receiver}
 use Rattle.receive.specs.declared.ReceiverAnswer.{ReceiverAnswer}
+use Rattle.receive.specs.declared.ReceiverAnswer.TheVariants as Ra
 use Rattle.receive.specs.declared.ReceiverResult.TheVariants as RM
 use Rattle.exchange.specs.Exchange.{Passing, Noise, Exchange, run, own_headers}
 use Rattle.exchange.specs.Transfer.{in_order}
 use Rattle.exchange.specs.Damaging.{script_radio}
 use Rattle.exchange.proofs.Budget.{stays}
-use Rattle.twoparty.specs.Party.{station_of, started_party, is_over, advanced}
+use Rattle.twoparty.specs.Party.{station_of, started_party, advanced}
 use Rattle.twoparty.specs.Shown.{first_of}
 use Rattle.twoparty.proofs.Standing.{next_shown}
-use Rattle.run.specs.Loop.{used_up, ran_on}
+use Rattle.run.specs.Loop.{is_over, used_up, ran_on}
 use Rattle.radio.specs.Radio.{first_section, all_have_octets}
 use Rattle.run.specs.Run.{exchange_of, ending}
 use Rattle.twoparty.specs.declared.Settings.{Settings}
@@ -77,6 +80,24 @@ module _ (file damage : List ℕ) (ca count : ℕ) (few : count ≤ 255) (none :
 
 -- ---- from the start
 
+-- a start leaves all of the record as it is but what was sent
+module _ {B : Type 0} (g : Receiver → B) (r : Receiver) (same : g (awaiting r opening) ≡ g r) where
+  started_with_same : (a : AsduResult) → g (started_with r a).receiver ≡ g r
+  started_with_same (A.Ok a) = same
+  started_with_same (A.Err e) = refl
+
+  start_same : (store : List ℕ) → g (started r store).receiver ≡ g r
+  unfolding started when
+  start_same store = by_test (store_agrees r store)
+    where
+      by_test : (b : Bool) → g (when b (started_with r (built r.procedure (select r) [])) (stepped r (Ra.Err E.RecordMismatch))).receiver ≡ g r
+      by_test true = started_with_same (built r.procedure (select r) [])
+      by_test false = refl
+
+start_agrees : (r : Receiver) (store : List ℕ) → store_agrees r store ≡ true → store_agrees (started r store).receiver store ≡ true
+unfolding store_agrees
+start_agrees r store e = start_same (λ (z : Receiver). store_agrees z store) r refl store ∙ e
+
 module _ (s : Settings) (file damage store : List ℕ) where
   -- what the tests before any frame accept
   pub record Accepted : Type 0 where
@@ -105,18 +126,21 @@ module _ (s : Settings) (file damage store : List ℕ) where
     unfolding receiver_made when
     receiver_is_made = simp (a.widths, a.addresses)
 
+    receiver_agrees : store_agrees receiving store ≡ true
+    unfolding store_agrees when
+    receiver_agrees =
+        let m = R.made (station_of s (other_role s.role)) s.ioa s.nof receiving receiver_is_made in
+        simp (m.settings, m.object, le-leb 0 (length store) (omega arith))
+
     begins_fit : Fits file damage s.common_address (section_count (length file)) beginning store
     begins_fit =
-        let station : FileTransferProcedure = station_of s (other_role s.role) in
-        let kept : ResultKind.ReceiverOf station s.ioa s.nof (started receiving store).receiver store =
-        ResultKind.call_keeps station s.ioa s.nof receiving store (ResultKind.made_of station s.ioa s.nof receiving store receiver_is_made) starts in
         record {
-          agrees = (ParamKind.made_of (station_of s s.role) s.ioa s.nof file providing provider_is_made).agrees;
-          holds = kept.agrees;
+          agrees = made_agrees (station_of s s.role) s.ioa s.nof file providing (made (station_of s s.role) s.ioa s.nof (length file) providing provider_is_made);
+          holds = start_agrees receiving store receiver_agrees;
           provider_ca = refl;
           provider_org = refl;
-          receiver_ca = ap (λ (z : FileTransferProcedure). z.ca) kept.at;
-          receiver_org = ap (λ (z : FileTransferProcedure). z.org) kept.at;
+          receiver_ca = start_same (λ (z : Receiver). z.procedure.ca) receiving refl store;
+          receiver_org = start_same (λ (z : Receiver). z.procedure.org) receiving refl store;
         }
 
     first_tuned : (n : ℕ) → section_count (length file) ≡ n → Tuned damage (section_count (length file)) (first_section damage) (in_order (script_radio damage 1 (section_count (length file))))

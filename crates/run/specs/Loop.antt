@@ -1,28 +1,51 @@
--- The run as it goes: frame after frame of a transfer's record, until none is left or the budget is spent. What a run answers is in Run.antt, which takes `Ran` and `accepted` from here; the rest only the run's own functions cite.
-use Rattle.std.specs.Prelude.{ℕ, zero, suc, ◌+◌, List}
+-- The run as it goes: frame after frame of a transfer's record, until none is left or the budget is spent. Only the run's own functions cite it; what a run answers is in Run.antt.
+use Rattle.std.specs.Prelude.{ℕ, zero, suc, ◌+◌, Bool, true, false, not, List, leb}
 use Rattle.laws.specs.When.{when}
-use Rattle.receive.specs.declared.Receiver.{Receiver}
-use Rattle.twoparty.specs.Party.{is_over, advanced}
+use Rattle.provide.specs.Record.{file_agrees}
+use Rattle.provide.specs.Replies.{reply_count}
+use Rattle.provide.specs.declared.Provider.{Provider}
+use Rattle.provide.specs.declared.CountResult.{CountResult}
+use Rattle.provide.specs.declared.CountResult.TheVariants as C
+use Rattle.twoparty.specs.Party.{next_frame, advanced}
 use Rattle.twoparty.specs.declared.TwoParty.{TwoParty}
+use Rattle.twoparty.specs.declared.Queue.{Queue}
+use Rattle.twoparty.specs.declared.Queue.TheVariants as Q
 use Rattle.twoparty.specs.declared.TwoPartyResult.{TwoPartyResult}
 use Rattle.twoparty.specs.declared.TwoPartyResult.TheVariants as T
+use Rattle.twoparty.specs.declared.NextFrame.{NextFrame}
+use Rattle.twoparty.specs.declared.NextFrame.TheVariants as N
 use Rattle.run.specs.declared.RunResult.{RunResult}
 use Rattle.run.specs.declared.RunResult.TheVariants.{Whole, Spent, Err}
+
+abbrev pub is_nothing : NextFrame → Bool
+is_nothing N.Nothing = true
+is_nothing (N.Frame sender f) = false
+is_nothing (N.Err e) = true
+
+-- no frame is left
+unfoldable pub is_over : TwoParty → List ℕ → Bool
+is_over t file = is_nothing (next_frame t file)
+
+-- the same by counts: whether a reply of so many frames has none at this index
+abbrev pub is_past : CountResult → ℕ → Bool
+is_past (C.Ok n) i = leb n i
+is_past (C.Err e) i = true
+
+abbrev pub is_over_by : Provider → List ℕ → Queue → Bool
+is_over_by p file Q.Empty = true
+is_over_by p file Q.Receiver = not (file_agrees p file)
+is_over_by p file (Q.Provider reply i damaged) = is_past (reply_count p file reply) i
 
 pub record Ran : Type 0 where
   pub result : RunResult
   pub store : List ℕ
 
--- the octets that a run names: those that the Receiver has accepted, and not those of a section under way
-abbrev pub accepted_count : Receiver → ℕ
-accepted_count r = r.held.kept
-
 abbrev pub whole : TwoParty → ℕ → RunResult
-whole t frames = Whole (accepted_count t.receiver) frames
+whole t frames = Whole t.receiver.kept frames
 
 -- with no more of the budget left: whole where no frame is, else spent
 unfoldable pub used_up : TwoParty → List ℕ → ℕ → RunResult
-used_up t file frames = when (is_over t file) (whole t frames) (Spent (accepted_count t.receiver) frames)
+used_up t file frames = when (is_over t file) (whole t frames) (Spent frames)
 
 -- with so much of the budget left, after so many frames
 abbrev pub ran_on : ℕ → ℕ → TwoParty → List ℕ → List ℕ → List ℕ → Ran

@@ -13,7 +13,7 @@ use Rattle.exchange.specs.Exchange.{Passing, Exchange, own_headers, run, begun}
 use Rattle.exchange.specs.Transfer.{Sendings, in_order, provider_count, receiver_count}
 use Rattle.exchange.specs.Damaging.{script_radio}
 use Rattle.twoparty.specs.Party.{station_of}
-use Rattle.run.specs.Loop.{Ran, accepted_count}
+use Rattle.run.specs.Loop.{Ran}
 use Rattle.radio.specs.Radio.{all_have_octets}
 use Rattle.twoparty.specs.declared.Settings.{Settings}
 use Rattle.run.specs.declared.RunResult.{RunResult}
@@ -26,14 +26,13 @@ exchange_of s file damage store frames =
     (begun (fresh_provider (station_of s s.role) s.ioa s.nof (length file)) (fresh_receiver (station_of s (other_role s.role)) s.ioa s.nof) store
     (in_order (script_radio damage 1 (section_count (length file)))))
 
--- whole where no frame is left; else the budget is spent
-abbrev pub ending_by : List Passing → ℕ → ℕ → RunResult
-ending_by [] octets frames = Whole octets frames
-ending_by (x ∷ queue) octets frames = Spent octets frames
+-- whole where no frame is left, with the octets accepted; else the budget is spent. The frames are those passed
+abbrev pub ending_by : Exchange → List Passing → RunResult
+ending_by e [] = Whole e.receiver.kept (length e.passed)
+ending_by e (x ∷ queue) = Spent (length e.passed)
 
--- with the octets accepted and the frames passed
 abbrev pub ending : Exchange → Ran
-ending e = record { result = ending_by e.queue (accepted_count e.receiver) (length e.passed); store = e.store }
+ending e = record { result = ending_by e e.queue; store = e.store }
 
 abbrev pub refused : List ℕ → FtError → Ran
 refused store e = record { result = Err e; store = store }

@@ -1,31 +1,55 @@
 // The two-party run (document 01, A transfer script): frame after frame, until none is left or the next
 // one would exceed the budget.
 ghost use Rattle.std.specs.Prelude.{◌≡◌};
-ghost use Rattle.run.specs.Loop.{accepted_count, used_up, ran_on};
+ghost use Rattle.run.specs.Loop.{is_past, is_over_by, used_up, ran_on};
 ghost use Rattle.run.specs.Run.{two_party};
 ghost use Rattle.run.specs.declared.RunResult.TheVariants.{Whole};
 
 use asdu::FtError;
-use provide::FrameResult;
+use provide::{CountResult, FrameResult, Provider};
 use receive::Receiver;
 use twoparty::{Queue, Settings, TwoParty, TwoPartyResult};
 
-// How a run ended, with so many octets accepted by the Receiver, after so many frames: whole, or with its
-// budget spent; or what refused it before any frame.
+// How a run ended, after so many frames: whole, with so many octets accepted, or with its budget spent.
 #[derive(Drop)]
 pub enum RunResult {
-    Whole { octets: usize, frames: usize },
-    Spent { octets: usize, frames: usize },
+    Whole { length: usize, frames: usize },
+    Spent { frames: usize },
     Err(FtError),
+}
+
+// Whether no frame is left at this index of a reply; nor where the record and the file disagree.
+fn is_past(count: CountResult, next: usize) -> bool
+    ensures { result ≡ is_past count next }
+{
+    match count {
+        CountResult::Ok(n) => n <= next,
+        CountResult::Err(_) => true,
+    }
+}
+
+// No frame is left. It is told by counts, and no frame is made for it.
+fn is_over(provider: Provider, queue: Queue, file: &[u8]) -> bool
+    ensures { result ≡ is_over_by provider file.now queue }
+{
+    match queue {
+        Queue::Empty => true,
+        Queue::Receiver => {
+            if provider.agrees(file) {
+                return false;
+            }
+            true
+        }
+        Queue::Provider { reply, next, .. } => is_past(provider.reply_count(file, reply), next),
+    }
 }
 
 // It ended whole after so many frames.
 fn whole(receiver: Receiver, frames: usize) -> RunResult
-    ensures { result ≡ Whole (accepted_count receiver) frames }
+    ensures { result ≡ Whole receiver.kept frames }
 {
-    let held = receiver.held;
     RunResult::Whole {
-        octets: held.kept,
+        length: receiver.kept,
         frames,
     }
 }
@@ -34,15 +58,12 @@ fn whole(receiver: Receiver, frames: usize) -> RunResult
 fn used_up(party: TwoParty, file: &[u8], frames: usize) -> RunResult
     ensures { result ≡ used_up party file.now frames }
 {
-    let receiver = party.receiver;
-    if party.is_over(file) {
-        return whole(receiver, frames);
+    let provider = party.provider;
+    let queue = party.queue;
+    if is_over(provider, queue, file) {
+        return whole(party.receiver, frames);
     }
-    let held = receiver.held;
-    RunResult::Spent {
-        octets: held.kept,
-        frames,
-    }
+    RunResult::Spent { frames }
 }
 
 // With this budget from here on: spent where the next frame would exceed it, else whole. The parts of
@@ -109,8 +130,7 @@ fn run_on(start: TwoParty, file: &[u8], damage: &[u8], store: &mut [u8], budget:
 }
 
 // The run of these settings: 2, 3, 1, 11 and 24 before any frame, then frame after frame until none is
-// left (whole) or the next one would exceed the budget (spent). It answers how many octets the Receiver has
-// accepted and how many frames passed.
+// left (whole) or the next one would exceed the budget (spent). It answers how many frames passed.
 pub fn run(
     settings: Settings,
     file: &[u8],

@@ -1,6 +1,5 @@
 // What a list keeps, as numbers: how many octets the buffers have, and the station, at places that
-// follow each other. A record is loaded from its places and kept there. `machine_calls::layout` has the places
-// behind those here, and shows that none overlap.
+// follow each other. A record is loaded from its places and kept there.
 use asdu::Direction;
 use ft::{FileTransferProcedure, Role, Selection};
 use values::make;
@@ -9,27 +8,14 @@ use words::{Numbers, at, copy, keep, later, of_flag, u8_at, u16_at};
 // How many octets the file, the store and the damage list have.
 pub const FILE: u8 = 0;
 
-pub const STORE: u8 = FILE + 1;
+pub const STORE: u8 = 1;
 
-pub const DAMAGE: u8 = STORE + 1;
+pub const DAMAGE: u8 = 2;
 
 // The station: role, selection, common address, originator, three widths.
-pub const STATION: u8 = DAMAGE + 1;
+pub const STATION: u8 = 8;
 
-pub const STATION_LEN: u8 = 7;
-
-// The call of a directory, and its fields behind its station.
-pub const CALL: u8 = STATION + STATION_LEN;
-
-pub const CALL_STARTED: u8 = STATION_LEN;
-
-pub const CALL_HELD: u8 = CALL_STARTED + 1;
-
-pub const CALL_DONE: u8 = CALL_HELD + 1;
-
-pub const CALL_LEN: u8 = CALL_DONE + 1;
-
-pub const CALL_OWN: usize = (CALL_LEN - STATION_LEN) as usize;
+pub const STATION_PLACES: u8 = 7;
 
 // Copies so many of the numbers to other places.
 pub fn copy_within(numbers: &mut Numbers, from: u8, to: u8, count: u8) {
@@ -102,14 +88,17 @@ pub fn keep_station(numbers: &mut Numbers, to: u8, station: FileTransferProcedur
     let role = station.role;
     let selection = station.selection;
     let sizes = station.sizes;
-    let own: [u64; STATION_LEN as usize] = [
-        role_number(role),
-        selection_number(selection),
-        station.ca as u64,
-        station.org as u64,
-        sizes.cause_octets as u64,
-        sizes.common_address_octets as u64,
-        sizes.information_object_address_octets as u64,
-    ];
-    keep(numbers, to, &own);
+    keep(
+        numbers,
+        to,
+        &[
+            role_number(role),
+            selection_number(selection),
+            station.ca as u64,
+            station.org as u64,
+            sizes.cause_octets as u64,
+            sizes.common_address_octets as u64,
+            sizes.information_object_address_octets as u64,
+        ],
+    );
 }

@@ -200,7 +200,7 @@ fn making(which: u8, regs: &mut Numbers, args: &Numbers) {
 
 // Keeps a station as it was given.
 fn set(regs: &mut Numbers, args: &Numbers) {
-    copy(args, 0, kept::STATION_LEN, regs, STATION);
+    copy(args, 0, kept::STATION_PLACES, regs, STATION);
     write::word(write::SET);
 }
 

@@ -5,7 +5,7 @@ use Rattle.store.specs.Store.{written}
 use Rattle.asdu.specs.Entry.{entry_of, unpacked, entry_address}
 use Rattle.asdu.specs.declared.EntryResult.{EntryResult}
 
--- how many entries packed octets are
+-- how many entries a page has
 unfoldable pub entries_in : List ℕ → ℕ
 entries_in o = length o / 13
 

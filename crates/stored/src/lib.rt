@@ -1,35 +1,15 @@
 // The entries of a directory as they stand in a store (document 01, The directory): 17 octets each, its
 // object address in 4, the lowest first, then its 13 packed octets. A page's entries are written behind
-// those that are there, all of them or none; the address of one is read.
-ghost use Rattle.std.specs.Prelude.{◌≡◌, ◌+◌, ◌*◌, ◌/◌, ◌≤◌, length, get_or};
+// those that are there, all of them or none.
+ghost use Rattle.std.specs.Prelude.{◌≡◌, ◌+◌, ◌*◌, ◌/◌, ◌≤◌, length};
 ghost use Rattle.store.specs.Store.{written};
-ghost use Rattle.stored.specs.Stored.{entries_in, has_last, stored_entry, page_stored, room_for, with_page, address_in};
+ghost use Rattle.stored.specs.Stored.{entries_in, has_last, stored_entry, page_stored, room_for, with_page};
 
 use asdu::DirectoryEntry;
 use asdu::entry::entry_address;
 
 // An entry's octets in the store: 4 of its address and 13 packed.
 pub const STORED: usize = 17;
-
-// An octet as a number that has room for more; past the end 0.
-fn octet_at(octets: &[u8], at: usize) -> u32
-    ensures { (result ≡ get_or octets.now at 0) × (result ≤ 255) }
-{
-    if at < octets.len() {
-        return octets[at] as u32;
-    }
-    0
-}
-
-// The object address that an entry's octets begin with, the lowest octet first.
-pub fn address_in(octets: &[u8]) -> u32
-    ensures { result ≡ address_in octets.now }
-{
-    octet_at(octets, 0)
-        + 256 * octet_at(octets, 1)
-        + 65536 * octet_at(octets, 2)
-        + 16777216 * octet_at(octets, 3)
-}
 
 // Whether any entry of a page has the last-file flag (7.2.6.38), the bit of weight 32 in its sixth octet.
 pub fn has_last(entries: &[u8]) -> bool

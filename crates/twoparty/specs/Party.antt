@@ -1,6 +1,6 @@
 -- The exchange (document 01, The exchange) a second time, as the code's record keeps it: the queue is one frame of the Receiver's, or the rest of one reply of the Provider's, and the sendings to come are a section and a number.
 -- What a customer must believe is the exchange (exchange/specs/Exchange.antt). These laws tie the two: `next_shown` (proofs/Standing.antt), that the frame shown is the first of the exchange's queue; `sight` (run/proofs/Following.antt), that a step here is a step there; `run_is` (run/proofs/Running.antt) and `frames_shown` (run/proofs/Showing.antt), that whole runs are the same.
-use Rattle.std.specs.Prelude.{ℕ, ◌+◌, Bool, true, false, List, leb, length}
+use Rattle.std.specs.Prelude.{ℕ, ◌+◌, Bool, List, leb, length}
 use Rattle.laws.specs.When.{when, unless, ◌and◌}
 use Rattle.asdu.specs.declared.FtError.TheVariants as E
 use Rattle.frame.specs.declared.Frame.{Frame}
@@ -18,8 +18,6 @@ use Rattle.provide.specs.declared.ProviderResult.TheVariants as PM
 use Rattle.requests.specs.declared.Reply.{Reply}
 use Rattle.provide.specs.declared.FrameResult.{FrameResult}
 use Rattle.provide.specs.declared.FrameResult.TheVariants as F
-use Rattle.provide.specs.declared.CountResult.{CountResult}
-use Rattle.provide.specs.declared.CountResult.TheVariants as C
 use Rattle.receive.specs.Record.{receiver_made, store_agrees, awaited, started}
 use Rattle.receive.specs.Answers.{Outcome, sends}
 use Rattle.receive.specs.declared.Receiver.{Receiver}
@@ -89,20 +87,6 @@ first p r file (Q.Provider reply i damaged) = from_reply (reply_frame p file rep
 -- the queue's first frame; 26 first
 unfoldable pub next_frame : TwoParty → List ℕ → NextFrame
 next_frame t file = unless (file_agrees t.provider file) (N.Err E.RecordMismatch) (first t.provider t.receiver file t.queue)
-
-abbrev pub is_nothing : NextFrame → Bool
-is_nothing N.Nothing = true
-is_nothing (N.Frame sender f) = false
-is_nothing (N.Err e) = true
-
--- no frame is left; nor is one where the Provider's record and the file disagree
-unfoldable pub is_over : TwoParty → List ℕ → Bool
-is_over t file = is_nothing (next_frame t file)
-
--- a reply of so many frames has none at this index
-abbrev pub is_past : CountResult → ℕ → Bool
-is_past (C.Ok n) i = leb n i
-is_past (C.Err e) i = true
 
 -- a transfer and the store
 pub record Moved : Type 0 where

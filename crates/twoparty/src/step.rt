@@ -2,12 +2,12 @@
 // and what that sends joins the queue.
 ghost use Rattle.std.specs.Prelude.{◌≡◌};
 ghost use Rattle.provide.specs.Replies.{reply_frame};
-ghost use Rattle.twoparty.specs.Party.{from_reply, first, next_frame, is_past, is_over, replied, to_provider, to_receiver, advanced, party_stepped};
+ghost use Rattle.twoparty.specs.Party.{from_reply, first, next_frame, replied, to_provider, to_receiver, advanced, party_stepped};
 
 use crate::{NextFrame, Queue, TwoParty, TwoPartyResult};
 use asdu::FtError;
 use exchange::Sender;
-use provide::{CountResult, FrameResult};
+use provide::FrameResult;
 use radio::Radio;
 use requests::{ProviderAnswer, Reply};
 
@@ -42,16 +42,6 @@ fn from_reply(found: FrameResult) -> NextFrame
     }
 }
 
-// Whether a reply of so many frames has none at this index; it has none where its count is refused.
-fn is_past(count: CountResult, next: usize) -> bool
-    ensures { result ≡ is_past count next }
-{
-    match count {
-        CountResult::Ok(n) => n <= next,
-        CountResult::Err(_) => true,
-    }
-}
-
 impl TwoParty {
     // The queue's first frame.
     fn first(self, file: &[u8]) -> NextFrame
@@ -83,24 +73,6 @@ impl TwoParty {
             return self.first(file);
         }
         NextFrame::Err(FtError::RecordMismatch)
-    }
-
-    // Whether no frame is left: `next_frame` names none. It is told by counts, and no frame is made for it.
-    pub fn is_over(self, file: &[u8]) -> bool
-        ensures { result ≡ is_over self file.now }
-    {
-        let provider = self.provider;
-        let queue = self.queue;
-        match queue {
-            Queue::Empty => true,
-            Queue::Receiver => {
-                if provider.agrees(file) {
-                    return false;
-                }
-                true
-            }
-            Queue::Provider { reply, next, .. } => is_past(provider.reply_count(file, reply), next),
-        }
     }
 
     // The Provider is handed the Receiver's frame, and what it answers joins the queue.
@@ -168,10 +140,8 @@ impl TwoParty {
         }
     }
 
-    // The queue's first frame passes; with no frame left nothing changes. Unlike `step` it does not test 26
-    // itself: the machine that is handed the frame does, answers 26 and sends nothing. A Provider that
-    // disagrees with the file has no frame to send.
-    pub fn advance(self, file: &[u8], damage: &[u8], store: &mut [u8]) -> TwoParty
+    // The queue's first frame passes; an empty queue stays.
+    fn advance(self, file: &[u8], damage: &[u8], store: &mut [u8]) -> TwoParty
         ensures { (result ≡ (advanced self file.now damage.now store.old).party)
             × (store.new ≡ (advanced self file.now damage.now store.old).store) }
     {

@@ -4,7 +4,8 @@
 // are asked for, so that nothing in a window can disagree with its records.
 ghost use Rattle.std.specs.Prelude.{◌≡◌, ◌+◌, ◌-◌, ◌%◌, ◌≤◌, ◌<◌};
 ghost use Rattle.window.specs.Window.{width_right, window_right, empty_window, accepted, refused, making, added, adding, latest, by_age};
-ghost use Rattle.window.specs.Totals.{whole_count, totals_of, totals_answer};
+ghost use Rattle.window.specs.Totals.{whole_count, with_record, totals_of, totals_answer};
+ghost use Rattle.window.specs.Ranges.{WithinBy, RisenBy};
 
 use asdu::FtError;
 
@@ -14,7 +15,7 @@ pub const MAX_WIDTH: u8 = 64;
 // The record of an ended transfer.
 #[derive(Drop)]
 pub struct Ended {
-    // How many octets the Receiver holds as accepted.
+    // How many octets the Receiver holds.
     pub octets: u32,
     // How many frames passed.
     pub frames: u32,
@@ -144,9 +145,22 @@ fn place_of(width: usize, place: usize, age: usize) -> usize
 
 // 1 for a whole transfer, else 0.
 fn whole_count(whole: bool) -> u64
-    ensures { (result ≡ whole_count whole) × (result ≤ 1) }
+    ensures { result ≡ whole_count whole }
 {
     if whole { 1 } else { 0 }
+}
+
+// Totals with a record more. Those of at most 63 records have room for it.
+fn with_record(totals: Totals, ended: Ended) -> Totals
+    requires { WithinBy 63 totals }
+    ensures { (result ≡ with_record ended totals) × RisenBy totals result }
+{
+    Totals {
+        octets: totals.octets + ended.octets as u64,
+        frames: totals.frames + ended.frames as u64,
+        damaged: totals.damaged + ended.damaged as u64,
+        whole: totals.whole + whole_count(ended.whole),
+    }
 }
 
 // The totals over the latest records of so many places.
@@ -163,13 +177,7 @@ fn totals_of(records: [Ended; 64], width: usize, place: usize, count: usize) -> 
     let mut age = 0;
     while age < count {
         let at = place_of(width, place, age);
-        let ended = records[at];
-        totals = Totals {
-            octets: totals.octets + ended.octets as u64,
-            frames: totals.frames + ended.frames as u64,
-            damaged: totals.damaged + ended.damaged as u64,
-            whole: totals.whole + whole_count(ended.whole),
-        };
+        totals = with_record(totals, records[at]);
         age += 1;
     }
     totals

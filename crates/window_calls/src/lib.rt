@@ -40,15 +40,14 @@ fn show_record(res: RunResult, damaged: u64) {
 
 fn whole(args: &Numbers) -> RunResult {
     RunResult::Whole {
-        octets: args[0] as usize,
+        length: args[0] as usize,
         frames: args[1] as usize,
     }
 }
 
 fn spent(args: &Numbers) -> RunResult {
     RunResult::Spent {
-        octets: args[0] as usize,
-        frames: args[1] as usize,
+        frames: args[0] as usize,
     }
 }
 
@@ -163,7 +162,7 @@ fn answer(which: u8, places: &Places, args: &Numbers) {
         8 => show(places),
         9 => show_ended(kept::ended(places, args[0] as usize)),
         10 => show_record(whole(args), args[2]),
-        _ => show_record(spent(args), args[2]),
+        _ => show_record(spent(args), args[1]),
     }
 }
 
@@ -191,7 +190,7 @@ window is_right
 window show
 window record:1
 record whole:888
-record spent:888
+record spent:88
 window run:88111242r",
         &mut args,
         octets,

@@ -118,7 +118,7 @@ pub fn one_of(words: &[u8], numbers: &Numbers, from: u8) {
 }
 
 // The answers that have at most three numbers, each at the line that its number below counts, from 0.
-const ANSWERS: [u8; 417] = *b"no
+const ANSWERS: [u8; 414] = *b"no
 yes
 none
 nothing
@@ -146,7 +146,7 @@ file_checksum @n @n
 unknown_lsq @n
 send
 whole @n frames @n
-spent @n frames @n
+spent frames @n
 stepped
 @n frames
 @n

@@ -68,11 +68,10 @@ fn options(words: &[String]) -> Options {
             "--stop" => options.stop = number() as usize,
             "--replay" => options.replay = value,
             "--only" if value == "directory" => (options.directory, options.bodies) = (true, false),
-            "--only" if ["tables", "random", "bodies"].contains(&value.as_str()) => {
+            "--only" => {
                 (options.tables, options.random) = (value == "tables", value == "random");
                 options.bodies = value == "bodies";
             }
-            "--only" => crate::stop("--only takes tables, random, directory or bodies"),
             _ => crate::stop(&format!("{word}: --seed, --calls, --stop, --replay and --only are the options")),
         }
     }

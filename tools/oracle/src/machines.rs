@@ -359,10 +359,6 @@ impl Taken {
         Self { receiver: Receiver::new(station, ioa, nof), station, ioa, nof, kept: 0, done: false, closed: false }
     }
 
-    pub fn accepted(&self) -> usize {
-        self.kept
-    }
-
     pub fn holds_octets(&self) -> bool {
         self.kept > 0 || self.receiver.received() > 0
     }

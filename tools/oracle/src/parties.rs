@@ -171,7 +171,7 @@ pub fn run(kept: &mut Kept, words: &mut Words) -> Option<Answer> {
     Some(match (party.queue.is_empty(), party.complete) {
         (true, Some(length)) => said(format!("whole {length} frames {frames}")),
         (true, None) => said("not complete"),
-        (false, _) => said(format!("spent {} frames {frames}", party.receiver.accepted())),
+        (false, _) => said(format!("spent frames {frames}")),
     })
 }
 
@@ -217,7 +217,7 @@ pub fn of_party(kept: &mut Kept, words: &mut Words) -> Option<Answer> {
         kept.party = None;
     }
     let Some(party) = &mut kept.party else {
-        kept.store_unknown |= matches!(what, "step" | "advance" | "pass" | "lines");
+        kept.store_unknown |= matches!(what, "step" | "pass" | "lines");
         return Some(RECORD);
     };
     Some(match what {
@@ -225,8 +225,7 @@ pub fn of_party(kept: &mut Kept, words: &mut Words) -> Option<Answer> {
             Some((sender, frame)) => said(format!("{} {}", sender.letter(), show::frame(&frame))),
             None => said("nothing"),
         },
-        "is_over" => said(if party.queue.is_empty() { "yes" } else { "no" }),
-        "step" | "advance" => {
+        "step" => {
             party.step(&mut kept.store);
             said("stepped")
         }

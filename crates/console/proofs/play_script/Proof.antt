@@ -8,8 +8,8 @@ returns c =
     let s = t.before.before in
     let d = s.before in
     let f = d.before.before in (
-      rw (s.settings.ensures, d.cut2.ensures, f.cut.ensures) at t.transfer.ensures.0,
-      rw (s.settings.ensures, d.cut2.ensures, f.cut.ensures) at t.transfer.ensures.1,
+      rw (s.settings.ensures, d.front2.ensures, f.front.ensures) at t.transfer.ensures.0,
+      rw (s.settings.ensures, d.front2.ensures, f.front.ensures) at t.transfer.ensures.1,
     )
 
 pub play_script_spec : {M : Type 1} → statement M

@@ -21,12 +21,7 @@ print_frames_spec =
     (λ c κs. search rules)
     (λ c κs. search rules)
     (λ c κs. search rules)
-    -- `i` stays below `frames`; both are named because `search` does not look so far back
-    (λ c.
-    let l = c.before.before.before.before.before.before in
-    let below = l.loop-test.true in
-    let range = l.before.before.before.before.before.well-formed.1.1.1.1 in
-    search rules)
+    (λ c. search rules)
     (λ c. search rules)
     (λ c. c.before.before.step.auto.1.1.1.0 ∙ c.before.before.before.before.before.before.before.loop.invariant)
     (λ c. c.before.loop.invariant)

@@ -4,18 +4,14 @@ use mathlib.Core.Path.{◌≡◌, refl, sym, ◌∙◌}
 use borrow.Author.Rules.{rules}
 use native.Mathlib.Omega.{arith}
 use lib.ListN.{length, drop, length-set}
-use Rattle.script.proofs.ReaderLaws.{past}
-use Rattle.directory_text.specs.Text.{entries_of, octets_in_front}
-use Rattle.directory_text.proofs.OctetLaws.{octet_found, all_of, all_begin, all_on, too_many, all_off, whole_end, part_end, front_of, front_on, front_off, front_full, front_end, broken_at}
+use Rattle.directory_text.specs.Text.{entries_of}
+use Rattle.directory_text.proofs.OctetLaws.{octet_found, all_of, all_begin, all_on, too_many, all_off, whole_end, part_end}
 use Rattle.directory_text.proofs.read_entries.Statement.{statement}
 use Rattle.directory_text.proofs.read_entries.Tie as tie
 
 abbrev invariant_loop : tie.invariant_loop
 invariant_loop text octets₀ at₀ count₀ octets at count =
-    (count ≤ 17000)
-    × (length octets ≡ length octets₀)
-    × (all_of octets count (drop at text) ≡ entries_of text)
-    × (front_of count (drop at text) ≡ octets_in_front 17000 0 text)
+    (count ≤ 17000) × (length octets ≡ length octets₀) × (all_of octets count (drop at text) ≡ entries_of text)
 
 abbrev decreases_loop : tie.decreases_loop
 decreases_loop text octets₀ at₀ count₀ octets at count = 17000 - count
@@ -23,14 +19,14 @@ decreases_loop text octets₀ at₀ count₀ octets at count = 17000 - count
 returns : tie.Need-returns invariant_loop decreases_loop
 returns c =
     let l = c.before.before in
-    (too_many _ _ l.loop.count l.loop.at c.before.loop-test.true c.if1.true ∙ l.loop.invariant.2, broken_at _ l.loop.count (front_full _ l.loop.count c.if1.true ∙ l.loop.invariant.3))
+    (too_many _ _ l.loop.count l.loop.at c.before.loop-test.true c.if1.true ∙ l.loop.invariant.2, tt)
 
 returns-2 : tie.Need-returns-2 invariant_loop decreases_loop
 returns-2 c =
     let o = c.before.before in
     let l = o.before.before.before in
     let e = rw c.enum_told.given.1 at o.octet_at.ensures in
-    (all_off _ _ l.loop.count l.loop.at o.before.before.loop-test.true (omega arith) e ∙ l.loop.invariant.2, broken_at _ l.loop.count (front_off _ l.loop.count (omega arith) e ∙ l.loop.invariant.3))
+    (all_off _ _ l.loop.count l.loop.at o.before.before.loop-test.true (omega arith) e ∙ l.loop.invariant.2, tt)
 
 cast_octets : tie.Need-overflow-cast-octets invariant_loop decreases_loop
 cast_octets c =
@@ -43,7 +39,7 @@ loop_again c =
     let o = c.before.before.before in
     let l = o.before.before.before in
     let e = rw c.before.reading.given.1 at o.octet_at.ensures in
-    (search rules, rw length-set l.loop.invariant.1, all_on l.loop.octets _ l.loop.count l.loop.at _ _ (omega arith) (omega arith) e ∙ l.loop.invariant.2, front_on _ l.loop.count _ _ (omega arith) e ∙ l.loop.invariant.3)
+    (search rules, rw length-set l.loop.invariant.1, all_on l.loop.octets _ l.loop.count l.loop.at _ _ (omega arith) (omega arith) e ∙ l.loop.invariant.2)
 
 returns-3 : tie.Need-returns-3 invariant_loop decreases_loop
 returns-3 c =
@@ -53,7 +49,7 @@ returns-3 c =
 returns-4 : tie.Need-returns-4 invariant_loop decreases_loop
 returns-4 c =
     let l = c.before.before in
-    (part_end _ _ l.loop.count l.loop.at c.before.loop-test.false c.if2.false ∙ l.loop.invariant.2, broken_at _ l.loop.count (front_end l.loop.count l.loop.invariant.0 ∙ (rw (past _ _ c.before.loop-test.false) at l.loop.invariant.3)))
+    (part_end _ _ l.loop.count l.loop.at c.before.loop-test.false c.if2.false ∙ l.loop.invariant.2, tt)
 
 pub read_entries_spec : {M : Type 1} → statement M
 read_entries_spec =
@@ -61,12 +57,10 @@ read_entries_spec =
     (tie.spec
     invariant_loop
     decreases_loop
-    (λ c. (search rules, refl, all_begin c.before.before.args.octets.now _, omega arith))
-    (λ c. search rules)
+    (λ c. (search rules, refl, all_begin c.before.before.args.octets.now _))
     (λ c. search rules)
     returns
     (λ c κs. search rules)
-    (λ c. search rules)
     (λ c. search rules)
     (λ c. search rules)
     (λ c. search rules)
@@ -78,6 +72,5 @@ read_entries_spec =
     loop_again
     (λ c. search rules)
     returns-3
-    (λ c. search rules)
     (λ c. search rules)
     returns-4)

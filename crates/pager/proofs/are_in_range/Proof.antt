@@ -8,8 +8,7 @@ use borrow.Author.Tests.{eq-eqb, ne_eqb}
 use lib.ListN.{length, drop}
 use Rattle.laws.proofs.Decide.{whens, yes_by_not, nay_by_not}
 use Rattle.asdu.specs.Entry.{all_clear}
-use Rattle.stored.specs.Stored.{entries_in}
-use Rattle.pager.specs.Pages.{entries_right}
+use Rattle.pager.specs.Pages.{entries_of, entries_right}
 use Rattle.pager.proofs.Entries.{right_next}
 use Rattle.pager.proofs.are_in_range.Statement.{statement}
 use Rattle.pager.proofs.are_in_range.Tie as tie
@@ -26,7 +25,7 @@ unfolding entries_right
 returns c = simp (whens, ne_eqb _ _ c.if1.true)
 
 returns-2 : tie.Need-returns-2 invariant_loop decreases_loop
-unfolding entries_right entries_in
+unfolding entries_right entries_of
 returns-2 c =
     let l = c.before.before.before.before in
     let o = l.before.before.before.args.entries.now in
@@ -43,7 +42,7 @@ loop_again c =
     (omega arith, l.loop.invariant.1, omega arith, l.loop.invariant.3 ∙ simp (whens, right_next o l.loop.at (omega arith), right))
 
 returns-3 : tie.Need-returns-3 invariant_loop decreases_loop
-unfolding entries_right entries_in
+unfolding entries_right entries_of
 returns-3 c =
     let l = c.before in
     let o = l.before.before.before.args.entries.now in

@@ -1,6 +1,5 @@
-use mathlib.Core.Path.{refl}
 use borrow.Author.Rules.{rules}
-use Rattle.pager_list.proofs.Packing.{in_range, out_of_range}
+use Rattle.laws.proofs.Decide.{whens}
 use Rattle.pager_list.proofs.are_right.Statement.{statement}
 use Rattle.pager_list.proofs.are_right.Tie as tie
 
@@ -8,9 +7,6 @@ pub are_right_spec : {M : Type 1} → statement M
 are_right_spec =
     tie.close
     (tie.spec
-    (λ c. search rules)
     (λ c κs. search rules)
-    (λ c. search rules)
-    (λ c. search rules)
-    (λ c. in_range _ _ _ _ refl c.before.before.before.pack.ensures.0 c.enum_told.given.1)
-    (λ c. out_of_range _ _ _ _ refl c.before.before.before.pack.ensures.0 _ c.enum-told2.given.1))
+    (λ c. simp (whens, c.before.if1.true, ← c.packs.ensures))
+    (λ c. simp (whens, c.if1.false)))

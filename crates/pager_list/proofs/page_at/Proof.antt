@@ -1,8 +1,8 @@
--- `pager_list::page_at` meets its contract: its code is walked by hand (document 01, Form by location). All that it knows of `are_in_range` and of `pager::page_of` is that each meets its contract.
+-- `pager_list::page_at` meets its contract: its code is walked by hand (document 01, Form by location). All that it knows of `go_through` and of `page_from` is that each meets its contract.
 use mathlib.Core.Path.{◌≡◌, refl, ap, ◌∙◌}
 use Prim.Native.Nat.{ℕ, ◌<◌, ◌^◌}
-use mathlib.Core.Bool.{Bool}
 use mathlib.Core.List.{List, [], ◌∷◌}
+use lib.Dec.{lit<}
 use lib.ListN.{length}
 use seplogic.Ra.Ura.{Ura}
 use mir.Syntax.{named, w32, w64}
@@ -16,13 +16,12 @@ use types.Logic.{Logic, sem}
 use contract.Monad.{Fun, fact}
 use contract.Running.{tables, tables_of}
 use types.Kit.{‵, raw, some, later, ◌⊛◌, ⋆, ◌$◌, ◌∵◌, !, qed, by, move, drop, use1, use2, split, join, pick, fsplit, fjoin, suffices, frame, await, done}
-use types.Part.{whole, sub, look_in}
-use types.Run.{look, init, forget, stop, fld, from, load, of_opd, and_then, no_more, assigns, land, returns, enter, alloc1, alloc0, params1, pass1, pass0, free1, free0}
+use types.Run.{look, init, forget, stop, from, load, lit, and_then, no_more, land, returns, enter, alloc1, alloc0, params1, pass1, pass0, free1, free0}
 use sound.WpLaws.{FmC, fm_of, WpFn-mono}
 use denote.RattleType.{owns}
 use denote.Laws.{Is, shows}
-use denote.Plain.{bool_Lawful, bool_Makes, uint_vals, uint_Tells, uint_Makes}
-use denote.Builtin.{bool, u32, usize}
+use denote.Plain.{uint_vals, uint_Tells, uint_Makes}
+use denote.Builtin.{u32, usize}
 use denote.Ref.{Bor}
 use denote.Slice.{slice_val, ShrSlice, Room, shr_slice_vals, shr_slice_Tells, shr_slice_Lawful, shr_slice_copy}
 use denote.Signature.{plain}
@@ -37,21 +36,24 @@ use denote.Triple.Table.{entered, cited}
 use denote.Triple.Walked.{says, Stays, stay_none, stay_none_slice, walk_of, Goes-none, Goes-none_slice, Walks, ends_at, walked, walk_Meets}
 use denote.Exit.{yes}
 use Rattle.asdu.specs.declared.DirectoryEntry.{DirectoryEntry}
-use Rattle.pager.specs.Pages.{page_by}
 use Rattle.pager.specs.declared.PageResult.{PageResult}
-use Rattle.pager_list.specs.Listed.{all_in_range, listed_page}
+use Rattle.pager_list.specs.declared.Seen.{Seen}
+use Rattle.pager_list.specs.Seen.{seen_none, seen_all, page_from}
+use Rattle.pager_list.specs.Listed.{listed_page}
 use Rattle.asdu.specs.contracts.DirectoryEntry as E
 use Rattle.pager.specs.contracts.PageResult as N
 use Rattle.pager.proofs.PageResult.TheLaws as N'
-use Rattle.pager.specs.contracts.page_of as ask
-use Rattle.pager.proofs.page_of.Symbol as ask-def
-use Rattle.pager.proofs.page_of.Symbol.{name as #ask}
-use Rattle.pager.proofs.page_of.Met as ask-thm
-use Rattle.pager_list.proofs.are_in_range.Symbol as test-def
-use Rattle.pager_list.proofs.are_in_range.Symbol.{name as #test}
-use Rattle.pager_list.proofs.are_in_range.Met as test-thm
+use Rattle.pager_list.specs.contracts.Seen as S
+use Rattle.pager_list.specs.contracts.go_through as go
+use Rattle.pager_list.proofs.go_through.Symbol as go-def
+use Rattle.pager_list.proofs.go_through.Symbol.{name as #go}
+use Rattle.pager_list.proofs.go_through.Met as go-thm
+use Rattle.pager_list.specs.contracts.page_from as ask
+use Rattle.pager_list.proofs.page_from.Symbol as ask-def
+use Rattle.pager_list.proofs.page_from.Symbol.{name as #ask}
+use Rattle.pager_list.proofs.page_from.Met as ask-thm
 use Rattle.pager_list.proofs.Answers.{page_law}
-use Rattle.pager_list.proofs.Testing.{Test, to_test, asked_test, tested}
+use Rattle.pager_list.proofs.Values.{seen_typed, seen_makes}
 use Rattle.pager_list.specs.contracts.page_at.Key.{name as #self}
 use Rattle.pager_list.specs.contracts.page_at as self
 use Rattle.pager_list.proofs.page_at.Statement as stated
@@ -60,7 +62,10 @@ use Rattle.pager_list.proofs.page_at.Code as code
 abbrev stayed : Stays (self.ended).signature.params (self.ended).kept
 stayed = (stay_none (λ _. u32) yes, (stay_none_slice (0 ∷ []) tt (plain (λ _. E.the_row)) yes, (stay_none (λ _. usize) yes, tt)))
 
--- the contract that the proof cites beside `Testing.antt`'s
+-- the contracts that the proof cites
+abbrev GoThrough : {M : Type 1} {𝓤 : Ura M} (𝓛 : Logic 𝓤) (mem : Memory → SProp 𝓤) (run : Routine → Fun 𝓤) → Contract 𝓤
+GoThrough 𝓛 mem run = triple_of 𝓛 go.signature (go.spec 𝓛 mem run)
+
 abbrev Ask : {M : Type 1} {𝓤 : Ura M} (𝓛 : Logic 𝓤) (mem : Memory → SProp 𝓤) (run : Routine → Fun 𝓤) → Contract 𝓤
 Ask 𝓛 mem run = triple_of 𝓛 ask.signature (ask.spec 𝓛 mem run)
 
@@ -68,14 +73,11 @@ module _ {M : Type 1} {𝓤 : Ura M} (𝓛 : Logic 𝓤) (mem : Memory → SProp
     (room : Room E.the_row (length ys)) (ioa-fits : ioa < 2 ^ 32) (i-fits : i < 2 ^ 64) where
   open 𝓛 use {H}
 
-  abbrev n : ℕ
-  n = length ys
-
   abbrev x : Bor (List DirectoryEntry)
   x = record { ref_ptr = (b, o); now = ys }
 
   abbrev v : Val
-  v = slice_val (b, o) n
+  v = slice_val (b, o) (length ys)
 
   abbrev Arg : Type 0
   Arg = ℕ × (Bor (List DirectoryEntry) × (ℕ × Unit {0}))
@@ -86,29 +88,46 @@ module _ {M : Type 1} {𝓤 : Ura M} (𝓛 : Logic 𝓤) (mem : Memory → SProp
   abbrev vals : List Val × (List Val × (List Val × Unit {0}))
   vals = (vint w32 ioa ∷ [], (v ∷ [], (vint w64 i ∷ [], tt)))
 
+  -- what is handed on: the list, the page's index, and 0 for an entry's, which a page does not depend on
+  abbrev Passed : Type 0
+  Passed = Bor (List DirectoryEntry) × (ℕ × (ℕ × Unit {0}))
+
+  abbrev passed : Passed
+  passed = (x, (i, (0, tt)))
+
+  abbrev passed_vals : List Val × (List Val × (List Val × Unit {0}))
+  passed_vals = (v ∷ [], (vint w64 i ∷ [], (vint w64 0 ∷ [], tt)))
+
   abbrev Post : Val → SProp 𝓤
   Post = (walk_of 𝓛 self.ended stayed (self.clauses 𝓛 mem run)).post (((κ, tt), (q, tt), tt, a, vals), tt)
 
   abbrev Own : Fml
   Own = (ShrSlice (named 0) κ E.the_row).own_val x (v ∷ [])
 
+  abbrev last : Seen
+  last = seen_all (seen_none i 0) ys
+
   -- what each callee's triple binds outside
-  abbrev to : (Test 𝓛 mem run).Ghost
-  to = to_test 𝓛 mem run κ q b o γ ys
+  abbrev to_go : (GoThrough 𝓛 mem run).Ghost
+  to_go = (((κ, tt), (q, tt), tt, passed, passed_vals), tt)
 
-  abbrev to_ask : Bool → Val → (Ask 𝓛 mem run).Ghost
-  to_ask t u = ((tt, tt, tt, (ioa, (t, (n, (i, tt)))), (vint w32 ioa ∷ [], (u ∷ [], (vint w64 n ∷ [], (vint w64 i ∷ [], tt))))), tt)
+  abbrev to_ask : Seen → Val → (Ask 𝓛 mem run).Ghost
+  to_ask s u = ((tt, tt, tt, (ioa, (s, tt)), (vint w32 ioa ∷ [], (u ∷ [], tt))), tt)
 
-  asked : (t : Bool) (u : Val) → Is bool t (u ∷ []) → ent 𝓤 (sem 𝓛 ftrue) ((Ask 𝓛 mem run).pre (to_ask t u))
-  asked t u is =
-      qed 𝓛 (‵ ftrue ∷ []) ∵ nothing ! $ owned ! usize (Is usize) (uint_Makes 𝓛 w64) i _ (refl, i-fits) $ fjoin ! $ owned ! usize (Is usize) (uint_Makes 𝓛 w64) n _ (refl, room.0) $ fjoin ! $
-      owned ! bool (Is bool) (bool_Makes 𝓛) t _ is $ fjoin ! $ owned ! u32 (Is u32) (uint_Makes 𝓛 w32) ioa _ (refl, ioa-fits) $ fjoin ! $ move ! (1 ∷ 0 ∷ []) $ join ! $ frame ! $ done !
+  asked_go : ent 𝓤 (on_entry 𝓛 go.signature (κ, tt) (q, tt) passed passed_vals) ((GoThrough 𝓛 mem run).pre to_go)
+  asked_go = qed 𝓛 ((‵ (flft κ q) ⊛ ‵ ftrue) ∷ ‵ (owns (ShrSlice (named 0) κ E.the_row ∷ usize ∷ usize ∷ []) passed passed_vals) ∷ []) ∵ join ! $ frame ! $ done !
 
-  said : (t : Bool) (r : PageResult) → ent 𝓤 (ensured 𝓛 ask.ended (ask.clauses 𝓛 mem run) tt (ioa, (t, (n, (i, tt)))) tt r) (fact 𝓤 (r ≡ page_by ioa t n i))
-  said t r = ex_e 𝓤 _ (λ ws. snd∗ 𝓤 (sem 𝓛 (lasts ask.ended tt (ioa, (t, (n, (i, tt)))) ws)) (fact 𝓤 (r ≡ page_by ioa t n i)))
+  asked : (s : Seen) (u : Val) → Is S.the_row s (u ∷ []) → ent 𝓤 (sem 𝓛 ftrue) ((Ask 𝓛 mem run).pre (to_ask s u))
+  asked s u is = qed 𝓛 (‵ ftrue ∷ []) ∵ nothing ! $ owned ! S.the_row (Is S.the_row) (seen_makes 𝓛) s _ is $ fjoin ! $ owned ! u32 (Is u32) (uint_Makes 𝓛 w32) ioa _ (refl, ioa-fits) $ fjoin ! $ move ! (1 ∷ 0 ∷ []) $ join ! $ frame ! $ done !
 
-  answered : (t : Bool) (r : PageResult) → t ≡ all_in_range ys → r ≡ page_by ioa t n i → r ≡ listed_page ioa ys i
-  answered t r e d = d ∙ ap (λ (s : Bool). page_by ioa s n i) e ∙ page_law ys ioa i
+  said_go : (s : Seen) → ent 𝓤 (ensured 𝓛 go.ended (go.clauses 𝓛 mem run) (κ, tt) passed tt s) (fact 𝓤 (s ≡ last))
+  said_go s = ex_e 𝓤 _ (λ ws. snd∗ 𝓤 (sem 𝓛 (lasts go.ended (κ, tt) passed ws)) (fact 𝓤 (s ≡ last)))
+
+  said : (s : Seen) (r : PageResult) → ent 𝓤 (ensured 𝓛 ask.ended (ask.clauses 𝓛 mem run) tt (ioa, (s, tt)) tt r) (fact 𝓤 (r ≡ page_from ioa s))
+  said s r = ex_e 𝓤 _ (λ ws. snd∗ 𝓤 (sem 𝓛 (lasts ask.ended tt (ioa, (s, tt)) ws)) (fact 𝓤 (r ≡ page_from ioa s)))
+
+  answered : (s : Seen) (r : PageResult) → s ≡ last → r ≡ page_from ioa s → r ≡ listed_page ioa ys i
+  answered s r e d = d ∙ ap (λ (t : Seen). page_from ioa t) e ∙ page_law ys room.0 i 0 ioa
 
   exits : (r : PageResult) (u : Val) → r ≡ listed_page ioa ys i → ent 𝓤 (⋆ 𝓛 (‵ ((N.the_row).own_val r (u ∷ [])) ∷ (‵ (flft κ q) ⊛ ‵ ftrue) ∷ ‵ Own ∷ [])) (Post u)
   exits r u e =
@@ -117,44 +136,46 @@ module _ {M : Type 1} {𝓤 : Ura M} (𝓛 : Logic 𝓤) (mem : Memory → SProp
       move ! (1 ∷ []) $ frame ! $ nothing ! $ owned ! usize (Is usize) (uint_Makes 𝓛 w64) i _ (refl, i-fits) $ fjoin ! $ move ! (2 ∷ 0 ∷ []) $ fjoin ! $
       owned ! u32 (Is u32) (uint_Makes 𝓛 w32) ioa _ (refl, ioa-fits) $ fjoin ! $ frame ! $ done !
 
-  module _ (C : Calls 𝓤 H) (Λ : Loops 𝓤 H) (fm : FmC 𝓤 H 𝓛.laws C) (known-test : Triple 𝓤 (C #test) (Test 𝓛 mem run)) (known : Triple 𝓤 (C #ask) (Ask 𝓛 mem run)) where
+  module _ (C : Calls 𝓤 H) (Λ : Loops 𝓤 H) (fm : FmC 𝓤 H 𝓛.laws C) (known-go : Triple 𝓤 (C #go) (GoThrough 𝓛 mem run)) (known : Triple 𝓤 (C #ask) (Ask 𝓛 mem run)) where
     walk : Is (ShrSlice (named 0) κ E.the_row) x (v ∷ []) → ent 𝓤 (on_entry 𝓛 self.signature (κ, tt) (q, tt) a vals) (WpFn 𝓤 H C Λ code.function (vint w32 ioa ∷ v ∷ vint w64 i ∷ []) Post)
     walk is =
         qed 𝓛 ((‵ (flft κ q) ⊛ ‵ ftrue) ∷ ‵ (owns (u32 ∷ ShrSlice (named 0) κ E.the_row ∷ usize ∷ []) a vals) ∷ []) ∵ enter ! C Λ code.function (vint w32 ioa ∷ v ∷ vint w64 i ∷ []) _ $
-        alloc1 ! (λ l₀. alloc1 ! (λ l₁. alloc1 ! (λ l₂. alloc1 ! (λ l₃. alloc1 ! (λ l₄. alloc1 ! (λ l₅. alloc0 ! $ params1 ! $
-        pass1 ! (init ! 8 refl (tt, record { fits = ioa-fits })) $ pass1 ! (init ! 6 refl ((shr_slice_Lawful 𝓛 (named 0) κ E.the_row).typed x (v ∷ []) is).0) $ pass1 ! (init ! 4 refl (tt, record { fits = i-fits })) $ pass0 ! $
-        -- [_5; …; _4; …; _3; …; _2; …; _1; …; _0; …; the token; what is owned]: one copy of the list's reference is kept
-        move ! (13 ∷ []) $ fsplit ! $ drop ! $ fsplit ! $ use1 𝓛 (‵ Own ⊛ ‵ Own) ((shr_slice_copy 𝓛 (named 0) κ E.the_row).twice x (v ∷ [])) $ split ! $ move ! (2 ∷ []) $ drop ! $
-        nothing ! $ move ! (1 ∷ 0 ∷ []) $ fjoin ! $ move ! (14 ∷ 0 ∷ []) $ use2 𝓛 (raw ((Test 𝓛 mem run).pre to)) (asked_test 𝓛 mem run κ q b o γ ys) $
-        calls_at ! fm (Test 𝓛 mem run) known-test to (and_then ! (load ! (from ! (stop !)) (look ! 8 refl)) (no_more !)) (λ u. tested 𝓛 mem run κ q b o γ ys u _ _ tt (λ t e t-is.
-        -- [the token; the list; _5; …]
-        land ! (from ! (stop !)) (init ! 4 refl ((bool_Lawful 𝓛).typed t (u ∷ []) t-is).0) $
-        assigns ! (of_opd ! (load ! (from ! (fld ! refl (stop !))) (look_in ! 8 (sub ! 1 refl (whole !))))) (from ! (stop !)) (init ! 2 refl (tt, record { fits = room.0 })) $
-        nothing ! $ use1 𝓛 (raw ((Ask 𝓛 mem run).pre (to_ask t u))) (asked t u t-is) $
-        calls_at ! fm (Ask 𝓛 mem run) known (to_ask t u)
-        (and_then ! (load ! (from ! (stop !)) (look ! 11 refl)) (and_then ! (load ! (from ! (stop !)) (look ! 5 refl)) (and_then ! (load ! (from ! (stop !)) (look ! 3 refl)) (and_then ! (load ! (from ! (stop !)) (look ! 7 refl)) (no_more !))))) (λ w.
-        use1 𝓛 (later (some (λ (r : PageResult). (‵ ftrue ⊛ ‵ ((N.the_row).own_val r (w ∷ []))) ⊛ raw (ensured 𝓛 ask.ended (ask.clauses 𝓛 mem run) tt (ioa, (t, (n, (i, tt)))) tt r)))) (id⊢ 𝓤 _) $ await ! tt $ pick ! (λ r.
-        split ! $ move ! (1 ∷ []) $ use1 𝓛 (raw (fact 𝓤 (r ≡ page_by ioa t n i))) (said t r) $ heard ! (r ≡ page_by ioa t n i) (λ d. split ! $ drop ! $
-        -- [the result; the token; the list; _5; …]
+        alloc1 ! (λ l₀. alloc1 ! (λ l₁. alloc1 ! (λ l₂. alloc1 ! (λ l₃. alloc1 ! (λ l₄. alloc0 ! $ params1 ! $
+        pass1 ! (init ! 6 refl (tt, record { fits = ioa-fits })) $ pass1 ! (init ! 4 refl ((shr_slice_Lawful 𝓛 (named 0) κ E.the_row).typed x (v ∷ []) is).0) $ pass1 ! (init ! 2 refl (tt, record { fits = i-fits })) $ pass0 ! $
+        -- [_4; …; _3; …; _2; …; _1; …; _0; …; the token; what is owned]: one copy of the list's reference is kept
+        move ! (11 ∷ []) $ fsplit ! $ drop ! $ fsplit ! $ use1 𝓛 (‵ Own ⊛ ‵ Own) ((shr_slice_copy 𝓛 (named 0) κ E.the_row).twice x (v ∷ [])) $ split ! $ move ! (2 ∷ []) $ drop ! $
+        nothing ! $ owned ! usize (Is usize) (uint_Makes 𝓛 w64) 0 _ (refl, lit< tt) $ fjoin ! $ owned ! usize (Is usize) (uint_Makes 𝓛 w64) i _ (refl, i-fits) $ fjoin ! $ move ! (1 ∷ 0 ∷ []) $ fjoin ! $
+        move ! (12 ∷ 0 ∷ []) $ use2 𝓛 (raw ((GoThrough 𝓛 mem run).pre to_go)) asked_go $
+        calls_at ! fm (GoThrough 𝓛 mem run) known-go to_go (and_then ! (load ! (from ! (stop !)) (look ! 6 refl)) (and_then ! (load ! (from ! (stop !)) (look ! 4 refl)) (and_then ! (lit ! tt) (no_more !)))) (λ u.
+        use1 𝓛 (later (some (λ (s : Seen). ((‵ (flft κ q) ⊛ ‵ ftrue) ⊛ ‵ ((S.the_row).own_val s (u ∷ []))) ⊛ raw (ensured 𝓛 go.ended (go.clauses 𝓛 mem run) (κ, tt) passed tt s)))) (id⊢ 𝓤 _) $ await ! tt $ pick ! (λ s.
+        split ! $ move ! (1 ∷ []) $ use1 𝓛 (raw (fact 𝓤 (s ≡ last))) (said_go s) $ heard ! (s ≡ last) (λ e. split ! $ move ! (1 ∷ []) $
+        peeks ! S.the_row (Is S.the_row) (shows 𝓛 S.the_row) s (u ∷ []) (λ s-is. drop ! $
+        -- [the token; the list; _4; …]
+        land ! (from ! (stop !)) (init ! 2 refl (seen_typed 𝓛 s u s-is)) $
+        nothing ! $ use1 𝓛 (raw ((Ask 𝓛 mem run).pre (to_ask s u))) (asked s u s-is) $
+        calls_at ! fm (Ask 𝓛 mem run) known (to_ask s u) (and_then ! (load ! (from ! (stop !)) (look ! 9 refl)) (and_then ! (load ! (from ! (stop !)) (look ! 3 refl)) (no_more !))) (λ w.
+        use1 𝓛 (later (some (λ (r : PageResult). (‵ ftrue ⊛ ‵ ((N.the_row).own_val r (w ∷ []))) ⊛ raw (ensured 𝓛 ask.ended (ask.clauses 𝓛 mem run) tt (ioa, (s, tt)) tt r)))) (id⊢ 𝓤 _) $ await ! tt $ pick ! (λ r.
+        split ! $ move ! (1 ∷ []) $ use1 𝓛 (raw (fact 𝓤 (r ≡ page_from ioa s))) (said s r) $ heard ! (r ≡ page_from ioa s) (λ d. split ! $ drop ! $
+        -- [the result; the token; the list; _4; …]
         peeks ! N.the_row (Is N.the_row) (shows 𝓛 N.the_row) r (w ∷ []) (λ r-is.
-        land ! (from ! (stop !)) (init ! 13 refl ((EL.lawful N.the_type N'.the_laws 𝓛 tt).typed r _ r-is).0) $
-        returns ! (look ! 13 refl) $ forget ! 3 refl $ forget ! 5 refl $ forget ! 7 refl $ forget ! 9 refl $ forget ! 11 refl $ forget ! 13 refl $
-        move ! (13 ∷ 14 ∷ []) $ free1 ! $ move ! (11 ∷ 12 ∷ []) $ free1 ! $ move ! (9 ∷ 10 ∷ []) $ free1 ! $ move ! (7 ∷ 8 ∷ []) $ free1 ! $ move ! (5 ∷ 6 ∷ []) $ free1 ! $ move ! (3 ∷ 4 ∷ []) $ free1 ! $ free0 ! $
-        by ! (exits r w (answered t r e d))))))))))))))
+        land ! (from ! (stop !)) (init ! 11 refl ((EL.lawful N.the_type N'.the_laws 𝓛 tt).typed r _ r-is).0) $
+        returns ! (look ! 11 refl) $ forget ! 3 refl $ forget ! 5 refl $ forget ! 7 refl $ forget ! 9 refl $ forget ! 11 refl $
+        move ! (11 ∷ 12 ∷ []) $ free1 ! $ move ! (9 ∷ 10 ∷ []) $ free1 ! $ move ! (7 ∷ 8 ∷ []) $ free1 ! $ move ! (5 ∷ 6 ∷ []) $ free1 ! $ move ! (3 ∷ 4 ∷ []) $ free1 ! $ free0 ! $
+        by ! (exits r w (answered s r e d)))))))))))))))
 
 module _ {M : Type 1} {𝓤 : Ura M} (𝓛 : Logic 𝓤) (mem : Memory → SProp 𝓤) (run : Routine → Fun 𝓤) where
   open 𝓛 use {H}
 
-  self_walks : (C : Calls 𝓤 H) (Λ : Loops 𝓤 H) → FmC 𝓤 H 𝓛.laws C → Triple 𝓤 (C #test) (Test 𝓛 mem run) → Triple 𝓤 (C #ask) (Ask 𝓛 mem run) → Walks 𝓛 self.ended stayed (WpFn 𝓤 H C Λ code.function) (self.clauses 𝓛 mem run)
-  self_walks C Λ fm known-test known =
+  self_walks : (C : Calls 𝓤 H) (Λ : Loops 𝓤 H) → FmC 𝓤 H 𝓛.laws C → Triple 𝓤 (C #go) (GoThrough 𝓛 mem run) → Triple 𝓤 (C #ask) (Ask 𝓛 mem run) → Walks 𝓛 self.ended stayed (WpFn 𝓤 H C Λ code.function) (self.clauses 𝓛 mem run)
+  self_walks C Λ fm known-go known =
       walked 𝓛 self.ended stayed (self.clauses 𝓛 mem run) (WpFn 𝓤 H C Λ code.function) (λ κs. (uint_vals w32, (shr_slice_vals, (uint_vals w64, tt)))) (λ κs. (uint_Tells w32, (shr_slice_Tells (named 0) κs.0 E.the_row, (uint_Tells w64, tt))))
-      (λ κs qs bounds a g are. via 𝓤 _ (fst∗ 𝓤 _ (emp 𝓤)) (walk 𝓛 mem run κs.0 qs.0 a.1.0.ref_ptr.0 a.1.0.ref_ptr.1 0 a.1.0.now a.0 a.1.1.0 are.1.0.0.1 are.0.1 are.1.1.0.1 C Λ fm known-test known are.1.0))
+      (λ κs qs bounds a g are. via 𝓤 _ (fst∗ 𝓤 _ (emp 𝓤)) (walk 𝓛 mem run κs.0 qs.0 a.1.0.ref_ptr.0 a.1.0.ref_ptr.1 0 a.1.0.now a.0 a.1.1.0 are.1.0.0.1 are.0.1 are.1.1.0.1 C Λ fm known-go known are.1.0))
 
-self_meets : {M : Type 1} {𝓤 : Ura M} (𝓛 : Logic 𝓤) → (mem : Memory → SProp 𝓤) (run : Routine → Fun 𝓤) (𝓣 : Tables 𝓤 𝓛.H) → Triple 𝓤 (𝓣.C #test) (Test 𝓛 mem run) → Triple 𝓤 (𝓣.C #ask) (Ask 𝓛 mem run)
+self_meets : {M : Type 1} {𝓤 : Ura M} (𝓛 : Logic 𝓤) → (mem : Memory → SProp 𝓤) (run : Routine → Fun 𝓤) (𝓣 : Tables 𝓤 𝓛.H) → Triple 𝓤 (𝓣.C #go) (GoThrough 𝓛 mem run) → Triple 𝓤 (𝓣.C #ask) (Ask 𝓛 mem run)
     → Meets 𝓛 self.signature (WpFn 𝓤 𝓛.H 𝓣.C 𝓣.Λ code.function) (self.spec 𝓛 mem run)
-self_meets {𝓤 = 𝓤} 𝓛 mem run 𝓣 known-test known =
+self_meets {𝓤 = 𝓤} 𝓛 mem run 𝓣 known-go known =
     walk_Meets 𝓛 self.ended stayed (Goes-none 𝓛 1 (λ _. u32) yes (λ κs x f. refl), (Goes-none_slice 𝓛 1 (0 ∷ []) tt (plain (λ _. E.the_row)) yes, (Goes-none 𝓛 1 (λ _. usize) yes (λ κs x f. refl), tt)))
-    (self.clauses 𝓛 mem run) (WpFn 𝓤 𝓛.H 𝓣.C 𝓣.Λ code.function) (WpFn-mono 𝓤 𝓛.H 𝓛.laws 𝓣 code.function) (self_walks 𝓛 mem run 𝓣.C 𝓣.Λ (fm_of 𝓤 𝓛.H 𝓛.laws 𝓣) known-test known)
+    (self.clauses 𝓛 mem run) (WpFn 𝓤 𝓛.H 𝓣.C 𝓣.Λ code.function) (WpFn-mono 𝓤 𝓛.H 𝓛.laws 𝓣 code.function) (self_walks 𝓛 mem run 𝓣.C 𝓣.Λ (fm_of 𝓤 𝓛.H 𝓛.laws 𝓣) known-go known)
 
 pub page_at_spec : {M : Type 1} → stated.statement M
 unfolding code.routine tables_of
@@ -162,5 +183,5 @@ page_at_spec 𝓤 𝓛 𝓜 𝓡 =
     entered 𝓤 𝓛.H (triple_of 𝓛 self.signature (self.spec 𝓛 𝓜.mem 𝓡.run))
     (tables 𝓤 𝓛.H 𝓜 𝓡 code.env).C (tables 𝓤 𝓛.H 𝓜 𝓡 code.env).Λ #self code.function (code.unfolded 𝓤 𝓛.H 𝓜 𝓡)
     (self_meets 𝓛 𝓜.mem 𝓡.run (tables_of 𝓤 𝓛.H 𝓜 (tables 𝓤 𝓛.H 𝓜 𝓡 code.env))
-    (cited 𝓤 𝓛.H (Test 𝓛 𝓜.mem 𝓡.run) 𝓜 𝓡 code.env #test test-def.routine code.calls-pager-list::are-in-range (test-thm.met 𝓤 𝓛 𝓜 𝓡))
-    (cited 𝓤 𝓛.H (Ask 𝓛 𝓜.mem 𝓡.run) 𝓜 𝓡 code.env #ask ask-def.routine code.calls-pager::page-of (ask-thm.met 𝓤 𝓛 𝓜 𝓡)))
+    (cited 𝓤 𝓛.H (GoThrough 𝓛 𝓜.mem 𝓡.run) 𝓜 𝓡 code.env #go go-def.routine code.calls-pager-list::go-through (go-thm.met 𝓤 𝓛 𝓜 𝓡))
+    (cited 𝓤 𝓛.H (Ask 𝓛 𝓜.mem 𝓡.run) 𝓜 𝓡 code.env #ask ask-def.routine code.calls-pager-list::page-from (ask-thm.met 𝓤 𝓛 𝓜 𝓡)))

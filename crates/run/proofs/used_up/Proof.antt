@@ -1,6 +1,7 @@
 use borrow.Author.Rules.{rules}
 use Rattle.laws.proofs.Decide.{whens, yes, nay}
 use Rattle.run.specs.Loop.{used_up}
+use Rattle.run.proofs.Counted.{over_counted}
 use Rattle.run.proofs.used_up.Statement.{statement}
 use Rattle.run.proofs.used_up.Tie as tie
 
@@ -11,5 +12,11 @@ used_up_spec =
     (tie.spec
     (λ c κs. search rules)
     (λ c κs. search rules)
-    (λ c. simp (whens, yes c.before.before.is-over.ensures c.before.if1.true) c.whole.ensures)
-    (λ c. simp (whens, nay c.before.before.is-over.ensures c.before.if1.false)))
+    (λ c.
+    let i = c.before.before in
+    let a = i.before.before.before.args in
+    simp (over_counted a.party a.file.now) (simp (whens, yes i.is-over.ensures c.before.if1.true) c.whole.ensures))
+    (λ c.
+    let i = c.before in
+    let a = i.before.before.before.args in
+    simp (over_counted a.party a.file.now) (simp (whens, nay i.is-over.ensures c.if1.false))))

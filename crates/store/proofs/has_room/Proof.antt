@@ -1,8 +1,7 @@
-use Prim.Native.Nat.{ℕ, ◌+◌, ◌≤◌, ◌<◌}
-use mathlib.Core.Path.{sym, ap, ◌∙◌}
+use Prim.Native.Nat.{◌+◌, ◌≤◌, ◌<◌}
+use mathlib.Core.Path.{sym}
 use native.Mathlib.Omega.{arith}
 use borrow.Author.Rules.{rules}
-use lib.Dec.{leb}
 use borrow.Author.Tests.{leb-true, leb-false, lt-leb}
 use Rattle.laws.proofs.Decide.{yes, nay}
 use Rattle.store.proofs.has_room.Statement.{statement}
@@ -27,7 +26,5 @@ has_room_spec =
     (λ c κs. search rules)
     add_is_held
     (λ c κs. search rules)
-    (λ c.
-    let a = c.before.before.before.args in
-    c.is-held2.ensures ∙ ap (λ (n : ℕ). leb n a.len) {y = a.kept + a.staged + a.more} (omega arith))
+    (λ c. c.is-held2.ensures)
     returns-2)

@@ -1,12 +1,11 @@
 -- The store's end part, after what is kept and staged, is lent to the copying function and comes back.
-use Prim.Native.Nat.{ℕ, ◌+◌, ◌≤◌}
-use mathlib.Core.Path.{sym, ap, ◌∙◌}
+use Prim.Native.Nat.{◌+◌, ◌≤◌}
+use mathlib.Core.Path.{sym}
 use native.Mathlib.Omega.{arith}
 use borrow.Author.Rules.{rules}
 use borrow.Author.Tests.{leb-true}
 use lib.ListN.{length, length-take, length-drop}
 use Rattle.laws.proofs.Decide.{whens, yes, nay}
-use Rattle.store.specs.Store.{written}
 use Rattle.store.proofs.Parts.{written_part}
 use Rattle.store.proofs.write_at.Statement.{statement}
 use Rattle.store.proofs.write_at.Tie as tie
@@ -34,14 +33,7 @@ returns c =
     let a = i.before.before.before.args in
     let fits = yes i.has_room.ensures b.before.before.if1.true in
     let h : a.kept + a.staged + length a.octets.now ≤ length a.store.now = leb-true _ _ fits in
-    let s = a.store.now in
-    let o = a.octets.now in
-    let left = b.copy-front in (
-      sym fits,
-      simp whens
-          (written_part s _ (omega arith) o left.new.0 left.ensures
-          ∙ ap (λ (n : ℕ). written s n o) {y = a.kept + a.staged} (omega arith)),
-    )
+    (sym fits, simp whens (written_part a.store.now (a.kept + a.staged) (omega arith) a.octets.now b.copy-front.new.0 b.copy-front.ensures))
 
 pub write_at_spec : {M : Type 1} → statement M
 write_at_spec =

@@ -10,7 +10,7 @@ use Rattle.window.specs.Ranges.{WithinBy}
 use Rattle.window.proofs.Latest.{latest_none}
 use Rattle.window.proofs.Sums.{totals_more}
 use Rattle.window.proofs.place_of.Reads as place-of-reads
-use Rattle.window.proofs.whole_count.Reads as whole-count-reads
+use Rattle.window.proofs.with_record.Reads as with-record-reads
 use Rattle.window.proofs.totals_of.Statement.{statement}
 use Rattle.window.proofs.totals_of.Reads as reads
 use Rattle.window.proofs.totals_of.Lts as lts
@@ -25,7 +25,7 @@ abbrev decreases_loop : tie.decreases_loop
 decreases_loop width place count records totals₀ age₀ totals age = count - age
 
 -- the place of a record is one of the 64
-is_place : (c : lts.After-place-of (place-of-reads.Asked, place-of-reads.Learnt, whole-count-reads.Asked, whole-count-reads.Learnt) reads.Pre reads.Post invariant_loop decreases_loop)
+is_place : (c : lts.After-place-of (place-of-reads.Asked, place-of-reads.Learnt, with-record-reads.Asked, with-record-reads.Learnt) reads.Pre reads.Post invariant_loop decreases_loop)
     → c.place_of.result < 64
 is_place c =
     let a = c.before.before.before.args in
@@ -34,15 +34,15 @@ is_place c =
 
 loop_again : tie.Need-loop-preserved invariant_loop decreases_loop
 loop_again c =
-    let p = c.before.before.before.before.before.before.before.before.before in
-    let l = p.before.before in
-    let a = l.before.args in
-    let long = l.before.well-formed.0.1.0.1 in
-    let few : a.width ≤ length a.t1 = omega arith in (
+    let l = c.before.before.before in
+    let a = l.before.before.args in
+    let long = l.before.before.well-formed.0.1.0.1 in
+    let few : a.width ≤ length a.t1 = omega arith in
+    let risen = c.with-record.ensures.1 in (
       omega arith,
       (
-        rw (c.before.whole-count.ensures.0, p.place_of.ensures, l.loop.invariant.1.0)
-            (totals_more a.width a.place a.t1 (omega arith) few l.loop.age _ (omega arith)),
+        rw (c.with-record.ensures.0, c.before.before.place_of.ensures, l.before.loop.invariant.1.0)
+            (totals_more a.width a.place a.t1 (omega arith) few l.before.loop.age _ (omega arith)),
         (omega arith, (omega arith, (omega arith, omega arith))),
       ),
     )
@@ -57,14 +57,7 @@ totals_of_spec =
     (λ c κs. search rules)
     (λ c. record { fits = omega (arith, is_place c) })
     is_place
-    (λ c. search rules)
-    (λ c. search rules)
-    (λ c. search rules)
-    (λ c. search rules)
-    (λ c. search rules)
-    (λ c. search rules)
     (λ c κs. search rules)
-    (λ c. search rules)
     (λ c. search rules)
     (λ c. search rules)
     loop_again

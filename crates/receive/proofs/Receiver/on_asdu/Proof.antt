@@ -1,6 +1,7 @@
 use Rattle.laws.proofs.Decide.{whens, yes, nay}
 use borrow.Author.Rules.{rules}
 use Rattle.receive.specs.Answers.{receive}
+use Rattle.receive.proofs.Telling.{told_is}
 use Rattle.receive.proofs.Receiver.on_asdu.Statement.{statement}
 use Rattle.receive.proofs.Receiver.on_asdu.Tie as tie
 
@@ -18,8 +19,8 @@ returns-2 c =
     let a = o.before.before in
     let d = a.before in
     let held = yes d.before.before.agrees.ensures d.before.if1.true in (
-      simp (whens, held, d.if2.false, ← a.told.ensures) o.on-told.ensures.0,
-      simp (whens, held, d.if2.false, ← a.told.ensures) o.on-told.ensures.1,
+      simp (whens, held, d.if2.false, told_is, ← a.told.ensures) o.on-told.ensures.0,
+      simp (whens, held, d.if2.false, told_is, ← a.told.ensures) o.on-told.ensures.1,
     )
 
 returns-3 : tie.Need-returns-3

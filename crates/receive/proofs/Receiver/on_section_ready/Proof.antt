@@ -12,4 +12,4 @@ on_section_ready_spec =
     (λ c κs. search rules)
     (λ c. simp (whens, c.before.if1.true, ← c.ends.ensures))
     (λ c κs. search rules)
-    (λ c. simp (whens, c.before.before.if1.false, ← c.asks.ensures)))
+    (λ c. simp (whens, c.before.if1.false, ← c.asks.ensures)))

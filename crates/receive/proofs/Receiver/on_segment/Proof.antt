@@ -8,18 +8,18 @@ use Rattle.receive.specs.Answers.{on_segment}
 use Rattle.receive.proofs.Receiver.on_segment.Statement.{statement}
 use Rattle.receive.proofs.Receiver.on_segment.Tie as tie
 
-add_staged : tie.Need-overflow-add-staged
-add_staged c =
+add_next : tie.Need-overflow-add-next
+add_next c =
     let w = c.before.before.before.before in
-    let a = w.before.before.before.before.before.args in
-    let h : a.self.held.kept + a.self.held.staged + length a.payload.now ≤ length a.store.now =
+    let a = w.before.before.before.before.args in
+    let h : a.self.kept + a.self.staged + length a.payload.now ≤ length a.store.now =
     leb-true _ _ (yes w.write-at.ensures.0 c.before.if1.true) in
     omega arith
 
 returns : tie.Need-returns
 unfolding on_segment
 returns c =
-    let i = c.before.before.before in
+    let i = c.before.before in
     let w = i.before.before.before in
     let fits = yes w.write-at.ensures.0 i.if1.true in
     (simp (whens, fits) c.runs.ensures, simp (whens, fits) (simp (whens, i.if1.true) at w.write-at.ensures.1))
@@ -37,7 +37,7 @@ on_segment_spec =
     tie.close
     (tie.spec
     (λ c κs. search rules)
-    add_staged
+    add_next
     (λ c κs. search rules)
     (λ c. search rules)
     returns
