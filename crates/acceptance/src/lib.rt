@@ -1,27 +1,29 @@
 // What a close makes of the octets that a Receiver holds (document 01, The Receiver's record): a section is
 // accepted or dropped by its sum, and the file is whole or not by the sum of what is accepted. The store is
 // lent: the accepted octets first, then those of the section under way.
+#![tactic(auto)]
+
 ghost use Rattle.std.specs.Prelude.{◌≡◌};
 ghost use Rattle.acceptance.specs.Closed.{section_closed, file_closed};
 
 use asdu::Chs;
 
 // How many octets of the store are accepted, and how many after them are under way.
-#[derive(Drop)]
+#[derive(Clone, Copy)]
 pub struct Held {
     pub kept: usize,
     pub staged: usize,
 }
 
 // What a section's close comes to, and what is held after it.
-#[derive(Drop)]
+#[derive(Clone, Copy)]
 pub enum SectionClosed {
     Accepted(Held),
     Dropped(Held),
 }
 
 // What the file's close comes to, and what is held after it.
-#[derive(Drop)]
+#[derive(Clone, Copy)]
 pub enum FileClosed {
     Whole(Held),
     // The accepted octets have this sum, not the stated one.

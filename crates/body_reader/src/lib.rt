@@ -2,6 +2,8 @@
 // laid out as IEC 60870-5-101, 7.3.6.1 to 7.3.6.6, has them. No octet is copied: a segment's payload is named as the
 // part of the body that it occupies. Every bit of these octets has a meaning, so nothing can be wrong but a length: the
 // body's, or the one that LOS says.
+#![tactic(auto)]
+
 ghost use Rattle.std.specs.Prelude.{◌≡◌, ◌+◌, ◌≤◌, length, get_or};
 ghost use Rattle.frame.specs.declared.Frame.TheVariants as F;
 ghost use Rattle.asdu.specs.Entry.{nof_at, lof_at};
@@ -15,7 +17,7 @@ use frame_body::is_body_type;
 use sections::Part;
 
 // What reading a body answers: its frame, and where its payload stands; or why there is none.
-#[derive(Drop)]
+#[derive(Clone, Copy)]
 pub enum ReadResult {
     Ok { frame: Frame, payload: Part },
     Err(FtError),

@@ -1,11 +1,13 @@
 // CHS, the checksum of a section or a file (IEC 60870-5-101, 7.2.6.37).
+#![tactic(auto)]
+
 ghost use Rattle.std.specs.Prelude.{◌≡◌};
 ghost use Rattle.checksum.specs.Checksum.{sum_after, checksum_checked};
 
 use asdu::{Chs, FtError};
 
 // What comparing a stated sum with the octets' answers: 8 comes with both.
-#[derive(Drop)]
+#[derive(Clone, Copy)]
 pub enum ChecksumResult {
     Ok,
     Err {

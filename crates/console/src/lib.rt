@@ -1,5 +1,7 @@
 // A transfer at the console: what document 01 (A transfer script) prints of a script goes to standard
 // output. What is read, run and printed is proved in `script`, `twoparty` and `run`; here nothing is decided.
+#![tactic(auto)]
+
 ghost use Rattle.std.specs.Prelude.{◌≡◌, take};
 ghost use Rattle.script.specs.Reader.{script_of};
 ghost use Rattle.console.specs.Program.{settings_with, transferred, played};

@@ -1,4 +1,6 @@
 // Counts that stay at their largest value, and the lesser of two.
+#![tactic(auto)]
+
 ghost use Rattle.std.specs.Prelude.{◌≡◌, ◌+◌, min};
 
 // The largest value of a count of 32 bits.

@@ -1,5 +1,7 @@
 // A frame of a two-party transfer handed over to the other machine (document 01, The exchange): under a
 // header of its sender's, and of a segment what the radio lets through.
+#![tactic(auto)]
+
 mod noise; // what a damaged sending is hit at
 
 ghost use Rattle.std.specs.Prelude.{◌≡◌, ◌≤◌, length};

@@ -1,5 +1,7 @@
 // The directory program (document 02, A3): a directory's entries on standard input, one to a line as its 17 octets
 // in decimal, as the directory call's store has them; their page on standard output, for the cabinet door.
+#![tactic(auto)]
+
 use asdu::FtError;
 use directory_page::PrintResult;
 use libc::{STDIN_FILENO, STDOUT_FILENO};

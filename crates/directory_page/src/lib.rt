@@ -1,6 +1,8 @@
 // A directory page to print (document 02, A3), for the door of a station's cabinet. Entries are handed in as the
 // directory call's store has them, 17 octets each (document 01, The directory). Each becomes a line of 52
 // characters and a newline, and the lines are written over the front of a lent page.
+#![tactic(auto)]
+
 ghost use Rattle.std.specs.Prelude.{◌≡◌, true, [], ◌∷◌, ◌++◌, ◌+◌, ◌*◌, ◌/◌, ◌%◌, ◌<◌, ◌≤◌, eqb, length};
 ghost use Rattle.laws.specs.When.{when, ◌and◌};
 ghost use Rattle.lists.specs.Parts.{joined};
@@ -18,14 +20,14 @@ use stored::STORED;
 pub const LINE: usize = 53;
 
 // What writing a page answers: how many octets were written; or why nothing was.
-#[derive(Drop)]
+#[derive(Clone, Copy)]
 pub enum PrintResult {
     Ok(usize),
     Err(FtError),
 }
 
 // Whether entries can be printed, or why not.
-#[derive(Drop)]
+#[derive(Clone, Copy)]
 enum Judged {
     Ok,
     Err(FtError),

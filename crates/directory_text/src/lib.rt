@@ -1,5 +1,7 @@
 // Directory entries as text, and the page to print that they make (document 02, A3): one entry to a line, which
 // is its 17 octets in decimal, without leading zeros, parted by single spaces, and one newline.
+#![tactic(auto)]
+
 ghost use Rattle.std.specs.Prelude.{◌≡◌, ◌≤◌, length, drop};
 ghost use Rattle.script.specs.Places.{found_at};
 ghost use Rattle.directory_text.specs.Text.{behind, octet_in, entries_of};
@@ -19,7 +21,7 @@ const MAX_OCTETS: usize = 17000;
 const LARGEST: u32 = 255;
 
 // How many octets the entries of a text have, or that it is no text of entries.
-#[derive(Drop)]
+#[derive(Clone, Copy)]
 enum EntriesRead {
     Are(usize),
     Nothing,

@@ -1,5 +1,7 @@
 // The record of an ended two-party run, for the window over the last transfers (document 02, A14): so
 // maintenance feeds the window from what the run answers.
+#![tactic(auto)]
+
 ghost use Rattle.std.specs.Prelude.{◌≡◌};
 ghost use Rattle.ended_run.specs.Record.{record_with, record_of};
 
@@ -9,7 +11,7 @@ use run::RunResult;
 use window::Ended;
 
 // The record of a run that ended; or the refusal of one that never began, which has none.
-#[derive(Drop)]
+#[derive(Clone, Copy)]
 pub enum RecordResult {
     Ok(Ended),
     Err(FtError),

@@ -2,6 +2,8 @@
 // Receiver over its store pass a file of two octets. Both are in one program here, so that a frame goes
 // from the one straight to the other; a station encodes it and sends it instead. Printed are the sender
 // and the type of each frame, as a line of document 01's script begins, then what the desk holds.
+#![tactic(auto)]
+
 use asdu::{Nof, UnknownField};
 use frame::Frame;
 use ft::{FileTransferProcedure, ProcedureResult, Received, Selection, build};

@@ -1,7 +1,8 @@
 // The exchange of document 01 between one Provider and one Receiver, and what is proved of it.
+#![tactic(auto)]
 
 // Whose frame passes.
-#[derive(Drop)]
+#[derive(Clone, Copy)]
 pub enum Sender {
     Provider,
     Receiver,

@@ -1,6 +1,8 @@
 // The library for programs in C and Rust: `rt staticlib exports` writes it. Each function is on numbers and
 // slices, and is proved and total like every public entry. A slice is two arguments, its address and its
 // length.
+#![tactic(auto)]
+
 ghost use Rattle.std.specs.Prelude.{◌≡◌};
 ghost use Rattle.checksum.specs.Checksum.{sum_after};
 ghost use Rattle.exports.specs.Exported.{role_of, settings_of, run_of, end_number, end_frames};

@@ -1,6 +1,8 @@
 // The eight frames of a file transfer (IEC 60870-5-101, 7.3.6, and 60870-5-104, 8.9), what each says
 // of itself, and which frame answers which. A segment's payload and a directory's packed entries stand
 // beside the frame, as the octets that are handed in with it.
+#![tactic(auto)]
+
 pub mod answer; // which frame answers which
 pub mod range; // whether a frame can be carried
 
@@ -10,20 +12,20 @@ ghost use Rattle.frame.specs.Frames.{type_of, cause_of, receiver_side, ioa_of, i
 use asdu::{Afq, Cause, Chs, Cp56Time2a, Frq, Lof, Los, Lsq, Nof, Nos, Scq, Srq, TypeId};
 
 // A name of file, where a frame has one.
-#[derive(Drop)]
+#[derive(Clone, Copy)]
 pub enum SomeNof {
     Some(Nof),
     None,
 }
 
 // A name of section, where a frame has one.
-#[derive(Drop)]
+#[derive(Clone, Copy)]
 pub enum SomeNos {
     Some(Nos),
     None,
 }
 
-#[derive(Drop)]
+#[derive(Clone, Copy)]
 pub enum Frame {
     // 120: a file is ready, or is refused.
     FileReady {

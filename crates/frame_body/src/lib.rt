@@ -1,5 +1,7 @@
 // The bodies of the frames of types 120 to 125 (document 02, A8), for a recorder that has no other encoder: the
 // octets that stand behind the object address, laid out as IEC 60870-5-101, 7.3.6.1 to 7.3.6.6, has them.
+#![tactic(auto)]
+
 ghost use Rattle.std.specs.Prelude.{◌≡◌, true, [], ◌∷◌, ◌++◌, ◌+◌, ◌<◌, ◌≤◌, length};
 ghost use Rattle.store.specs.Store.{written};
 ghost use Rattle.asdu.specs.Entry.{nof_octets, lof_octets};
@@ -21,7 +23,7 @@ const NARROWEST: AddressSizes = AddressSizes {
 };
 
 // What writing a body answers: how many octets it has; or why nothing was written.
-#[derive(Drop)]
+#[derive(Clone, Copy)]
 pub enum WriteResult {
     Ok(usize),
     Err(FtError),

@@ -1,5 +1,7 @@
 // Calls of `replay` (docs/REPLAY.md) on values: elements, frames and their bodies, makers and parts of octets. Each
 // module reads the line as one of its calls and answers it, or says that it is none of them.
+#![tactic(auto)]
+
 pub mod bodies; // the bodies of frames
 pub mod elements; // the elements, the widths and the checksum
 pub mod frames; // the frames

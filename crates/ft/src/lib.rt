@@ -1,6 +1,8 @@
 // The file transfer procedure (IEC 60870-5-104, 7.11, over 60870-5-101, 7.4.11): roles and
 // directions, what a station admits of what it receives, and the frames it makes. Which
 // section is under way and what is stored is the layer's above.
+#![tactic(auto)]
+
 pub mod admit; // what a received frame means to a station
 pub mod build; // the frames that a station makes
 pub mod direction; // roles, directions and the selection
@@ -10,21 +12,21 @@ use asdu::{AddressSizes, Cause, Discard, FtError, Header};
 use frame::Frame;
 
 // The procedure's role of a station.
-#[derive(Drop)]
+#[derive(Clone, Copy)]
 pub enum Role {
     Controlling,
     Controlled,
 }
 
 // The two directions that a station may have marked as used.
-#[derive(Drop)]
+#[derive(Clone, Copy)]
 pub struct Selection {
     pub monitor: bool,
     pub control: bool,
 }
 
 // A station's settings.
-#[derive(Drop)]
+#[derive(Clone, Copy)]
 pub struct FileTransferProcedure {
     pub role: Role,
     pub selection: Selection,
@@ -35,28 +37,28 @@ pub struct FileTransferProcedure {
     pub sizes: AddressSizes,
 }
 
-#[derive(Drop)]
+#[derive(Clone, Copy)]
 pub enum ProcedureResult {
     Ok(FileTransferProcedure),
     Err(FtError),
 }
 
 // The common address and the originator that a station's frames carry.
-#[derive(Drop)]
+#[derive(Clone, Copy)]
 pub struct Addressing {
     pub common_address: u16,
     pub originator: u8,
 }
 
 // What came in after the header: a frame, or octets that are none.
-#[derive(Drop)]
+#[derive(Clone, Copy)]
 pub enum Received {
     Frame(Frame),
     Undecodable,
 }
 
 // What a received frame means, or its numbered refusal. The frame is the one that was handed in.
-#[derive(Drop)]
+#[derive(Clone, Copy)]
 pub enum Reaction {
     // A frame of the receiving side, for the one that provides the file.
     Requested,
@@ -72,13 +74,13 @@ pub enum Reaction {
 }
 
 // A frame with the facts of its header. What stands beside it is as the caller handed it in.
-#[derive(Drop)]
+#[derive(Clone, Copy)]
 pub struct Asdu {
     pub header: Header,
     pub frame: Frame,
 }
 
-#[derive(Drop)]
+#[derive(Clone, Copy)]
 pub enum AsduResult {
     Ok(Asdu),
     Err(FtError),

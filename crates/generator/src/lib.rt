@@ -1,6 +1,8 @@
 // Test load for the radio bench (document 02, A2): the same file and the same damage on every bench. A
 // generator of 32 bits steps, and the octet of each new state is the next of a sequence. The sequence
 // fills a lent file, or a lent damage list by the sections of a file that have octets.
+#![tactic(auto)]
+
 ghost use Rattle.std.specs.Prelude.{◌≡◌, ◌*◌, ◌%◌, ◌^◌, ◌<◌, map, length};
 ghost use Rattle.generator.specs.Sequence.{stepped, octet_of, state_after, octets_from};
 ghost use Rattle.generator.specs.Filling.{file_answer, file_after, naming, damage_answer, damage_after};
@@ -23,13 +25,13 @@ const STATES_OF_AN_OCTET: u32 = 0x100_0000;
 const MAX_DAMAGE: usize = 255;
 
 // A generator, by its state.
-#[derive(Drop)]
+#[derive(Clone, Copy)]
 pub struct Generator {
     pub state: u32,
 }
 
 // What filling a file answers: the generator after it; or why nothing was written.
-#[derive(Drop)]
+#[derive(Clone, Copy)]
 pub enum FileResult {
     Ok(Generator),
     Err(FtError),
@@ -37,7 +39,7 @@ pub enum FileResult {
 
 // What filling a damage list answers: how many places were filled, and the generator after them; or why
 // nothing was written.
-#[derive(Drop)]
+#[derive(Clone, Copy)]
 pub enum DamageResult {
     Ok { count: u8, generator: Generator },
     Err(FtError),

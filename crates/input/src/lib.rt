@@ -1,5 +1,7 @@
 // The lines of a list that `replay` plays, as they are read from a file: where each begins and stops is
 // kept among the numbers.
+#![tactic(auto)]
+
 use words::{Numbers, at, keep, put, text, write};
 
 // What has been read of a list. A line that is as long cannot be read.

@@ -1,5 +1,7 @@
 // One line of what a transfer prints of a frame (document 01, A transfer script): its sender's letter,
 // its type, section, qualifier and checksum. A number can be put into any text.
+#![tactic(auto)]
+
 ghost use Rattle.std.specs.Prelude.{◌≡◌, [], ◌∷◌, ◌+◌, ◌≤◌, ◌<◌, length};
 ghost use Rattle.exchange.specs.Lines.{side_of, named_section, qualifier, stated_sum};
 ghost use Rattle.script.specs.Decimal.{decimal};

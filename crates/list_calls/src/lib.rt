@@ -1,6 +1,8 @@
 // For the test program: the pager over a lent list, over an array of entries by value. A function that
 // lends a list of records is proved by hand, so there is one, which calls all three of `pager_list`; its
 // callers here need no such proof.
+#![tactic(auto)]
+
 ghost use Rattle.std.specs.Prelude.{◌≡◌, ◌≤◌, take, length};
 ghost use Rattle.pager_list.specs.Listed.{listed_pages, listed_page, listed_entry};
 
@@ -12,7 +14,7 @@ use pager::{PageResult, PagesResult};
 const MOST: usize = 37;
 
 // What the pager answers on one list: how many pages, a page, and an entry.
-#[derive(Drop)]
+#[derive(Clone, Copy)]
 pub struct ListAnswers {
     pub pages: PagesResult,
     pub page: PageResult,

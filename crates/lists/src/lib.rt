@@ -1,1 +1,2 @@
 // Definitions and laws of a list cut into parts and of rounding up. It has no code.
+#![tactic(auto)]

@@ -1,5 +1,7 @@
 // The load program (document 02, A2): three numbers on standard input, the generator's state, the file's octets
 // and the damage list's entries; the transfer script of that load on standard output, for the transfer program.
+#![tactic(auto)]
+
 use asdu::FtError;
 use libc::{STDIN_FILENO, STDOUT_FILENO};
 use load_script::TextResult;

@@ -1,6 +1,8 @@
 // The transfer script of a test load (document 02, A2). Three numbers are read from a text, in the form of a
 // transfer script's (document 01): the generator's state, the file's octets and the damage list's entries.
 // The generator fills the file, goes on to the damage list, and the script of both is written as text.
+#![tactic(auto)]
+
 ghost use Rattle.std.specs.Prelude.{◌≡◌, [], ◌∷◌, ◌++◌, ◌+◌, ◌*◌, ◌≤◌, length};
 ghost use Rattle.script.specs.Decimal.{decimal, spaced};
 ghost use Rattle.script.specs.Script.{text_of};
@@ -25,7 +27,7 @@ const NAME: u32 = 7;
 
 // A test load: the generator's state before it, how many octets the file has, and for how many entries
 // the damage list has places.
-#[derive(Drop)]
+#[derive(Clone, Copy)]
 pub struct Load {
     pub state: u32,
     pub octets: u32,
@@ -33,14 +35,14 @@ pub struct Load {
 }
 
 // What writing a load's script answers: the length of its text; or why nothing was written.
-#[derive(Drop)]
+#[derive(Clone, Copy)]
 pub enum TextResult {
     Ok(usize),
     Err(FtError),
 }
 
 // The load that a text is, or that it is none.
-#[derive(Drop)]
+#[derive(Clone, Copy)]
 enum LoadRead {
     Is(Load),
     Nothing,

@@ -1,6 +1,8 @@
 // A maker for each frame of the file transfer, with the conventional widths: the frame and its header,
 // or 4 where a value is out of range, then 3 where an address is. It asks nothing of a station's
 // directions; a station's own `build` does (IEC 60870-5-101, 7.3.6, and 60870-5-104, 8.9).
+#![tactic(auto)]
+
 ghost use Rattle.std.specs.Prelude.{◌≡◌};
 ghost use Rattle.frame.specs.declared.Frame.TheVariants as F;
 ghost use Rattle.ft.specs.Procedure.{conventional};

@@ -1,5 +1,7 @@
 // Calls of `replay` (docs/REPLAY.md) on the buffers, on the scripts that are read into them, and on what is
 // made of them as text.
+#![tactic(auto)]
+
 pub mod loads; // the test load's generator, and its scripts
 pub mod pages; // a directory page to print
 

@@ -1,6 +1,8 @@
 // The pages of a directory (IEC 60870-5-101, 7.3.6.7, and document 01, The directory): which entries of
 // a station's list go into which F_DR_TA_1 frame, at which address, and with which last-file flag. The
 // list is lent as packed entries, 13 octets each.
+#![tactic(auto)]
+
 ghost use Rattle.std.specs.Prelude.{◌≡◌, true, ◌<◌};
 ghost use Rattle.pager.specs.Pages.{entries_right, entries_of, page_count, entry_count, pages_answer, page_answer, flagged, flagged_answer, sent_entry, entry_answer};
 ghost use Rattle.asdu.specs.declared.EntryResult.TheVariants.{Ok};
@@ -10,20 +12,20 @@ use asdu::{DirectoryEntry, EntryResult, FtError, sizes};
 use counts::least;
 
 // How many pages there are.
-#[derive(Drop)]
+#[derive(Clone, Copy)]
 pub enum PagesResult {
     Ok(usize),
     Err(FtError),
 }
 
 // One page: the object address of its first entry, and how many entries it has.
-#[derive(Drop)]
+#[derive(Clone, Copy)]
 pub struct Page {
     pub ioa: u32,
     pub count: usize,
 }
 
-#[derive(Drop)]
+#[derive(Clone, Copy)]
 pub enum PageResult {
     Ok(Page),
     Err(FtError),

@@ -3,6 +3,8 @@
 // of `pager` answers on the packed list. A function that holds such a list is proved by hand, so there are
 // four of them and they are short: one goes through the list, and three call it. The tests and the
 // arithmetic stand in functions that take what it found by value.
+#![tactic(auto)]
+
 ghost use Rattle.std.specs.Prelude.{◌≡◌};
 ghost use Rattle.laws.specs.When.{◌and◌};
 ghost use Rattle.lists.specs.Parts.{div_ceil};
@@ -18,7 +20,7 @@ use pager::{Page, PageResult, PagesResult};
 
 // What is known of the entries gone through so far: how many they are, whether each is in range, and
 // the one that stands on the page and at the index asked for, or 9 while there is none.
-#[derive(Drop)]
+#[derive(Clone, Copy)]
 struct Seen {
     page: usize,
     index: usize,

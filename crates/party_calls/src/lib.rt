@@ -1,5 +1,7 @@
 // Calls of `replay` (docs/REPLAY.md) on the run of two parties and on the transfer that a list keeps, over
 // file, damage and store.
+#![tactic(auto)]
+
 use exchange::Sender;
 use frame::Frame;
 use machine_calls::kept;

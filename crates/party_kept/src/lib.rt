@@ -1,4 +1,6 @@
 // The transfer that a list of `replay` keeps, from and to numbers, and what it is made of.
+#![tactic(auto)]
+
 use machine_calls::kept::{PARTY_PROVIDER, PARTY_RECEIVER};
 use machine_calls::{kept, providing, receiving};
 use radio::Radio;

@@ -1,5 +1,7 @@
 // The providing side of a file transfer (IEC 60870-5-101, 7.4.11): one file, cut into sections, and
 // what a Provider answers to the requests for it. The file's octets are lent to each call.
+#![tactic(auto)]
+
 mod frames; // the frames of a reply, by their index
 mod record; // the Provider's record, its making and its agreement with the lent file
 mod request; // what a Provider makes of a received frame
@@ -11,7 +13,7 @@ use requests::ProviderAnswer;
 use sections::Part;
 
 // The record of one file's transfer.
-#[derive(Drop)]
+#[derive(Clone, Copy)]
 pub struct Provider {
     pub procedure: FileTransferProcedure,
     pub ioa: u32,
@@ -25,39 +27,39 @@ pub struct Provider {
 }
 
 // Which file a record is of.
-#[derive(Drop)]
+#[derive(Clone, Copy)]
 pub struct FileName {
     pub ioa: u32,
     pub nof: Nof,
 }
 
-#[derive(Drop)]
+#[derive(Clone, Copy)]
 pub enum ProviderResult {
     Ok(Provider),
     Err(FtError),
 }
 
 // The record after a frame, and where the Provider stands.
-#[derive(Drop)]
+#[derive(Clone, Copy)]
 pub struct ProviderStep {
     pub provider: Provider,
     pub answer: ProviderAnswer,
 }
 
 // How many frames a reply has.
-#[derive(Drop)]
+#[derive(Clone, Copy)]
 pub enum CountResult {
     Ok(usize),
     Err(FtError),
 }
 
-#[derive(Drop)]
+#[derive(Clone, Copy)]
 pub enum FrameResult {
     Ok(Frame),
     Err(FtError),
 }
 
-#[derive(Drop)]
+#[derive(Clone, Copy)]
 pub enum PartResult {
     Ok(Part),
     Err(FtError),

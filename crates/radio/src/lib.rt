@@ -1,6 +1,8 @@
 // The radio of a script (document 01, A transfer script): no segment is lost, and the k-th naming of a
 // section raises the first octet of its k-th sending by 1 modulo 256. A section's sendings follow each
 // other, the damaged ones first. What is damaged is lent as a list of section numbers.
+#![tactic(auto)]
+
 ghost use Rattle.std.specs.Prelude.{◌≡◌, eqb, ltb};
 ghost use Rattle.laws.specs.When.{when};
 ghost use Rattle.exchange.specs.Exchange.{is_section, is_sending};
@@ -10,7 +12,7 @@ ghost use Rattle.radio.specs.Radio.{has_octets, all_have_octets, first_section, 
 use requests::{ProviderAnswer, Reply};
 
 // The sendings to come: so many damaged ones of this section, then an intact one, then the next section.
-#[derive(Drop)]
+#[derive(Clone, Copy)]
 pub struct Radio {
     pub section: u8,
     pub left: usize,

@@ -14,7 +14,7 @@ use ft::{Reaction, Received};
 
 // What a received frame tells a Receiver: no more than its step goes by, so that the step holds neither
 // the frame nor the reaction.
-#[derive(Drop)]
+#[derive(Clone, Copy)]
 enum Told {
     Nothing,
     FileReady { lof: Lof, frq: Frq },

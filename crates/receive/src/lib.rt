@@ -1,5 +1,7 @@
 // The receiving side of a file transfer (IEC 60870-5-101, 7.4.11): what a Receiver asks for, checks
 // and keeps. The store is lent to each call: the accepted octets first, then the section under way.
+#![tactic(auto)]
+
 mod answered; // what a received frame does
 mod record; // the record: its making, what it holds and what it sends
 mod step; // what a step makes of the record
@@ -9,7 +11,7 @@ use frame::Frame;
 use ft::FileTransferProcedure;
 
 // What a Receiver last sent of its file: a request or an acknowledgement, by its action and section.
-#[derive(Drop)]
+#[derive(Clone, Copy)]
 pub enum Sent {
     Nothing,
     Request { action: u8, nos: Nos },
@@ -17,14 +19,14 @@ pub enum Sent {
 }
 
 // The file's length as the file ready stated it.
-#[derive(Drop)]
+#[derive(Clone, Copy)]
 pub enum Length {
     Unknown,
     Known(u32),
 }
 
 // The record of one file's transfer.
-#[derive(Drop)]
+#[derive(Clone, Copy)]
 pub struct Receiver {
     pub procedure: FileTransferProcedure,
     pub ioa: u32,
@@ -38,14 +40,14 @@ pub struct Receiver {
     pub done: bool,
 }
 
-#[derive(Drop)]
+#[derive(Clone, Copy)]
 pub enum ReceiverResult {
     Ok(Receiver),
     Err(FtError),
 }
 
 // Where a Receiver stands after a frame. What is then to be sent, `ReceiverStep::to_send` says.
-#[derive(Drop)]
+#[derive(Clone, Copy)]
 pub enum ReceiverAnswer {
     Running,
     Send,
@@ -59,14 +61,14 @@ pub enum ReceiverAnswer {
     Err(FtError),
 }
 
-#[derive(Drop)]
+#[derive(Clone, Copy)]
 pub struct ReceiverStep {
     pub receiver: Receiver,
     pub answer: ReceiverAnswer,
 }
 
 // The frame that a step sends, if it sends one.
-#[derive(Drop)]
+#[derive(Clone, Copy)]
 pub enum ToSend {
     Nothing,
     Frame(Frame),

@@ -1,6 +1,8 @@
 // The Receiver's entry that changes the caller's record itself (document 01, Form by location): a
 // thin wrapper over the step by value, for a caller that keeps one record and need not store each
 // step's record back.
+#![tactic(auto)]
+
 ghost use Rattle.std.specs.Prelude.{◌≡◌};
 ghost use Rattle.receive.specs.Answers.{receive};
 

@@ -1,4 +1,6 @@
 // `replay`: lists of calls of the library, each written with its answer (docs/REPLAY.md).
+#![tactic(auto)]
+
 mod list; // the lines of a list
 
 use words::write;

@@ -1,12 +1,14 @@
 // What a Provider decides on a request or an acknowledgement for its file (IEC 60870-5-101, 7.4.11): the
 // answer alone, without the record that it is put beside.
+#![tactic(auto)]
+
 ghost use Rattle.std.specs.Prelude.{◌≡◌};
 ghost use Rattle.requests.specs.Answers.{is_over, sc_answer, after_section, ack_answer};
 
 use asdu::{Afq, Cause, FtError, Nos, Scq};
 
 // What a Provider sends: its frames are counted, and each is made when it is asked for by its index.
-#[derive(Drop)]
+#[derive(Clone, Copy)]
 pub enum Reply {
     Nothing,
     FileReady,
@@ -17,7 +19,7 @@ pub enum Reply {
 }
 
 // Where a Provider stands after a frame.
-#[derive(Drop)]
+#[derive(Clone, Copy)]
 pub enum ProviderAnswer {
     Running(Reply),
     Complete,

@@ -1,5 +1,7 @@
 // The two-party run (document 01, A transfer script): frame after frame, until none is left or the next
 // one would exceed the budget.
+#![tactic(auto)]
+
 ghost use Rattle.std.specs.Prelude.{◌≡◌};
 ghost use Rattle.run.specs.Loop.{is_past, is_over_by, used_up, ran_on};
 ghost use Rattle.run.specs.Run.{two_party};
@@ -11,7 +13,7 @@ use receive::Receiver;
 use twoparty::{Queue, Settings, TwoParty, TwoPartyResult};
 
 // How a run ended, after so many frames: whole, with so many octets accepted, or with its budget spent.
-#[derive(Drop)]
+#[derive(Clone, Copy)]
 pub enum RunResult {
     Whole { length: usize, frames: usize },
     Spent { frames: usize },

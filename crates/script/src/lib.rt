@@ -1,10 +1,12 @@
 // A transfer script's text (document 01, A transfer script), and reading one.
+#![tactic(auto)]
+
 pub mod read; // from the text to its numbers and octets
 
 use asdu::{FtError, Nof};
 
 // What a script says, but for the octets of its file and of its damage, which stand in the buffers.
-#[derive(Drop)]
+#[derive(Clone, Copy)]
 pub struct Outline {
     pub ioa: u32,
     pub nof: Nof,
@@ -12,7 +14,7 @@ pub struct Outline {
     pub damage_len: usize,
 }
 
-#[derive(Drop)]
+#[derive(Clone, Copy)]
 pub enum ScriptResult {
     Ok(Outline),
     Err(FtError),

@@ -21,14 +21,14 @@ pub const MAX_DAMAGE: u32 = 255;
 const MAX_OCTET: u32 = 255;
 
 // A number and the place after it, or that there is none.
-#[derive(Drop)]
+#[derive(Clone, Copy)]
 pub enum Reading {
     Number { value: u32, next: usize },
     Nothing,
 }
 
 // The settings and the place after them.
-#[derive(Drop)]
+#[derive(Clone, Copy)]
 enum SettingsRead {
     Are { ioa: u32, nof: Nof, next: usize },
     Nothing,

@@ -2,6 +2,8 @@
 // can carry (document 01, The Provider's record). Lengths and counts go by the numbers alone; a part is
 // handed out of the lent octets, and none is copied. The types of the public parameters are so narrow that
 // no sum and no product overflows.
+#![tactic(auto)]
+
 ghost use Rattle.std.specs.Prelude.{◌≡◌, ◌+◌, ◌*◌, ◌≤◌, ◌<◌, take, drop};
 ghost use Rattle.lists.specs.Parts.{div_ceil};
 ghost use Rattle.sections.specs.Sections.{section_length, section_count, section_octets, segment_octets, segment_start, part_octets};
@@ -16,7 +18,7 @@ pub const DEFAULT_SECTION_LEN: u32 = 4096;
 const MAX_SECTIONS: usize = 255;
 
 // A part of lent octets: where it begins, and how long it is.
-#[derive(Drop)]
+#[derive(Clone, Copy)]
 pub struct Part {
     pub start: usize,
     pub length: usize,

@@ -1,5 +1,7 @@
 // A lent store of octets: those that are accepted stand first, then those under way, and after them is the
 // place where the next are written.
+#![tactic(auto)]
+
 ghost use Rattle.std.specs.Prelude.{◌≡◌, ◌++◌, ◌+◌, ◌≤◌, leb, length, drop};
 ghost use Rattle.laws.specs.When.{when};
 ghost use Rattle.store.specs.Store.{written};

@@ -1,6 +1,8 @@
 // The entries of a directory as they stand in a store (document 01, The directory): 17 octets each, its
 // object address in 4, the lowest first, then its 13 packed octets. A page's entries are written behind
 // those that are there, all of them or none.
+#![tactic(auto)]
+
 ghost use Rattle.std.specs.Prelude.{◌≡◌, ◌+◌, ◌*◌, ◌/◌, ◌≤◌, length};
 ghost use Rattle.store.specs.Store.{written};
 ghost use Rattle.stored.specs.Stored.{entries_in, has_last, stored_entry, page_stored, room_for, with_page};

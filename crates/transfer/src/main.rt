@@ -1,4 +1,6 @@
 // The transfer program: a script on standard input, its frames and its end on standard output.
+#![tactic(auto)]
+
 use libc::STDIN_FILENO;
 
 // An input longer than the buffer is longer than any script, and so is its front.

@@ -1,5 +1,7 @@
 // A transfer between two parties, frame by frame (document 01, A transfer script): one Provider and one Receiver, and between them a
 // radio that raises octets where the damage list says so. File, damage and store are lent to each call.
+#![tactic(auto)]
+
 mod begin; // the tests before any frame, and the start
 mod step; // one frame
 
@@ -14,7 +16,7 @@ use requests::Reply;
 pub use step::replied;
 
 // What a run is given beside file, damage and store.
-#[derive(Drop)]
+#[derive(Clone, Copy)]
 pub struct Settings {
     pub sizes: AddressSizes,
     // Both stations' own.
@@ -27,7 +29,7 @@ pub struct Settings {
 
 // The frames on their way. What a Receiver sends is one frame, the one whose answer its record awaits;
 // what a Provider sends is a reply, of which the frames from `next` on are still to come.
-#[derive(Drop)]
+#[derive(Clone, Copy)]
 pub enum Queue {
     Empty,
     Receiver,
@@ -40,7 +42,7 @@ pub enum Queue {
 }
 
 // A transfer under way.
-#[derive(Drop)]
+#[derive(Clone, Copy)]
 pub struct TwoParty {
     pub provider: Provider,
     pub receiver: Receiver,
@@ -48,14 +50,14 @@ pub struct TwoParty {
     pub radio: Radio,
 }
 
-#[derive(Drop)]
+#[derive(Clone, Copy)]
 pub enum TwoPartyResult {
     Ok(TwoParty),
     Err(FtError),
 }
 
 // The frame that passes next, and whose it is.
-#[derive(Drop)]
+#[derive(Clone, Copy)]
 pub enum NextFrame {
     Nothing,
     Frame { sender: Sender, frame: Frame },

@@ -153,7 +153,7 @@ pub fn unknown(numbers: &Numbers, from: u8) -> UnknownField {
 // ---- Frames
 
 // The fields of a frame that is no query of a log; of those that its kind does not have it has 0.
-#[derive(Drop)]
+#[derive(Clone, Copy)]
 struct Fields {
     ioa: u32,
     nof: Nof,

@@ -2,6 +2,8 @@
 // over those inside, so that maintenance sees a radio path get worse. When it is full the oldest leaves.
 // The records lie in a ring of as many places as the window is wide. The totals are added up where they
 // are asked for, so that nothing in a window can disagree with its records.
+#![tactic(auto)]
+
 ghost use Rattle.std.specs.Prelude.{◌≡◌, ◌+◌, ◌-◌, ◌%◌, ◌≤◌, ◌<◌};
 ghost use Rattle.window.specs.Window.{width_right, window_right, empty_window, accepted, refused, making, added, adding, latest, by_age};
 ghost use Rattle.window.specs.Totals.{whole_count, with_record, totals_of, totals_answer};
@@ -13,7 +15,7 @@ use asdu::FtError;
 pub const MAX_WIDTH: u8 = 64;
 
 // The record of an ended transfer.
-#[derive(Drop)]
+#[derive(Clone, Copy)]
 pub struct Ended {
     // How many octets the Receiver holds.
     pub octets: u32,
@@ -26,7 +28,7 @@ pub struct Ended {
 }
 
 // A window over the latest records.
-#[derive(Drop)]
+#[derive(Clone, Copy)]
 pub struct Window {
     // How many records it has room for, 1 to 64.
     pub width: u8,
@@ -39,20 +41,20 @@ pub struct Window {
 }
 
 // What a call answers beside the window that it hands back.
-#[derive(Drop)]
+#[derive(Clone, Copy)]
 pub enum WindowAnswer {
     Ok,
     Err(FtError),
 }
 
-#[derive(Drop)]
+#[derive(Clone, Copy)]
 pub struct WindowStep {
     pub window: Window,
     pub answer: WindowAnswer,
 }
 
 // Sums over the records inside; the fourth counts the whole ones.
-#[derive(Drop)]
+#[derive(Clone, Copy)]
 pub struct Totals {
     pub octets: u64,
     pub frames: u64,
@@ -60,7 +62,7 @@ pub struct Totals {
     pub whole: u64,
 }
 
-#[derive(Drop)]
+#[derive(Clone, Copy)]
 pub enum TotalsResult {
     Ok(Totals),
     Err(FtError),

@@ -1,5 +1,7 @@
 // Calls of `replay` (docs/REPLAY.md) on the window over the last transfers that a list keeps, and on the
 // record that a run gives it.
+#![tactic(auto)]
+
 pub mod kept; // the window, from and to numbers
 
 use ended_run::RecordResult;

@@ -1,6 +1,8 @@
 // What `replay` reads and writes (docs/REPLAY.md): calls as lines of words, and the library's values as
 // numbers and as text. The numbers of a call, and those that are kept, stand in an array, each frame and
 // record at places that follow each other.
+#![tactic(auto)]
+
 pub mod read; // a call, read into numbers
 pub mod text; // parts of a text
 pub mod write; // answers, written as text

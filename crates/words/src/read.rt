@@ -21,7 +21,7 @@ const NONE: u64 = 0xFFFF_FFFF_FFFF_FFFF;
 pub const MISSING: u8 = 255;
 
 // What a word means.
-#[derive(Drop)]
+#[derive(Clone, Copy)]
 enum Found {
     Number(u64),
     Nothing,

@@ -1,6 +1,0 @@
-use Rattle.laws.proofs.Decide.{whens}
-use Rattle.frame.proofs.range.both.Statement.{statement}
-use Rattle.frame.proofs.range.both.Tie as tie
-
-pub both_spec : {M : Type 1} → statement M
-both_spec = tie.close (tie.spec (λ c. simp (whens, c.if1.true)) (λ c. simp (whens, c.if1.false)))
