@@ -1,13 +1,13 @@
 -- What writing a body answers and leaves in the buffer, test by test; and that a refusal leaves the buffer as it came in.
 use Prim.Native.Nat.{ℕ, ◌≤◌, ◌<◌}
-use mathlib.Core.Bool.{Bool, true, false, not}
+use mathlib.Core.Bool.{Bool, true, false}
 use mathlib.Core.Path.{◌≡◌, refl, sym, ◌∙◌}
 use mathlib.Core.List.{List}
 use native.Mathlib.Omega.{arith}
 use lib.ListN.{length}
 use borrow.Author.Tests.{leb-true, le-leb, lt-leb}
 use Rattle.laws.specs.When.{when, unless, ◌and◌}
-use Rattle.laws.proofs.Decide.{whens, yes_by_not}
+use Rattle.laws.proofs.Decide.{whens, yes}
 use Rattle.store.specs.Store.{written}
 use Rattle.asdu.specs.declared.AddressSizes.{AddressSizes}
 use Rattle.asdu.specs.declared.FtError.{FtError}
@@ -43,10 +43,10 @@ module _ (f : Frame) (p out : List ℕ) where
     told_written s = let n = le-leb (length (body_of f p)) (length out) s in (simp (whens, h.0, h.1, n), simp (whens, h.0, h.1, n))
 
 -- the type's test and the ranges' test, by the results t and r of the calls
-pub tested : (f : Frame) (p : List ℕ) {n : ℕ} {t r : Bool} → n ≡ type_of f → t ≡ body_type n → not t ≡ false → r ≡ values_in_range narrowest f p
+pub tested : (f : Frame) (p : List ℕ) {n : ℕ} {t r : Bool} → n ≡ type_of f → t ≡ body_type n → t ≡ true → r ≡ values_in_range narrowest f p
     → (body_type (type_of f) ≡ true) × (body_in_range f p ≡ r)
 tested f p k e h g =
-    let has : body_type (type_of f) ≡ true = rw (← k) (yes_by_not e h) in
+    let has : body_type (type_of f) ≡ true = rw (← k) (yes e h) in
     (has, sym (range_same f p has) ∙ sym g)
 
 -- of three tests, one after the other

@@ -6,11 +6,11 @@ use Rattle.asdu.proofs.DirectoryEntry.unpack.Goals as goal
 pub returns-then-is_clear : goal.returns-then-is_clear
 unfolding unpacked
 returns-then-is_clear c = simp (
-      whens,
-      yes c.is_clear.ensures c.if-is_clear.true,
-      eq-eqb _ _ c.if-octets-eq-LEN.true,
-      ← c.entry_of.ensures,
-    )
+  whens,
+  yes c.is_clear.ensures c.if-is_clear.true,
+  eq-eqb _ _ c.if-octets-eq-LEN.true,
+  ← c.entry_of.ensures,
+)
 
 pub returns-else-is_clear : goal.returns-else-is_clear
 unfolding unpacked

@@ -7,12 +7,12 @@ use Rattle.asdu.proofs.entry.is_page.Goals as goal
 pub returns-then-entries-le-MAX_DIRECTORY_FILES : goal.returns-then-entries-le-MAX_DIRECTORY_FILES
 unfolding page_right within
 returns-then-entries-le-MAX_DIRECTORY_FILES c = simp (
-      whens,
-      le-leb _ _ c.if-entries-le-MAX_DIRECTORY_FILES.true,
-      le-leb _ _ c.if-entries-ge1.true,
-      eq-eqb _ _ c.if-octets-eq0.true,
-      ← c.are_clear.ensures,
-    )
+  whens,
+  le-leb _ _ c.if-entries-le-MAX_DIRECTORY_FILES.true,
+  le-leb _ _ c.if-entries-ge1.true,
+  eq-eqb _ _ c.if-octets-eq0.true,
+  ← c.are_clear.ensures,
+)
 
 pub returns-else-entries-le-MAX_DIRECTORY_FILES : goal.returns-else-entries-le-MAX_DIRECTORY_FILES
 unfolding page_right within
