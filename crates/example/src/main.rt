@@ -7,10 +7,12 @@
 use asdu::{Nof, UnknownField};
 use frame::Frame;
 use ft::{FileTransferProcedure, ProcedureResult, Received, Selection, build};
-use libc::STDOUT_FILENO;
 use provide::{CountResult, FrameResult, PartResult, Provider, ProviderResult, ProviderStep};
 use receive::{Receiver, ReceiverAnswer, ReceiverResult, ReceiverStep, ToSend};
 use requests::{ProviderAnswer, Reply};
+
+// Standard output.
+const STDOUT: i32 = 1;
 
 // The common address of both stations, and the file: its object address and name.
 const STATION: u16 = 1;
@@ -23,12 +25,12 @@ const NAME: u16 = 7;
 type Store = [u8; 8];
 
 fn text(words: &[u8]) {
-    io::write_all(STDOUT_FILENO, words);
+    io::write_all(STDOUT, words);
 }
 
 fn number(word: &[u8], n: u64) {
     text(word);
-    io::print_decimal(STDOUT_FILENO, n);
+    io::print_decimal(STDOUT, n);
     text(b"\n");
 }
 

@@ -2,6 +2,9 @@
 // kept among the numbers.
 #![tactic(auto)]
 
+ghost use Rattle.std.specs.Prelude.{◌≤◌, length};
+
+use std::io::Read;
 use words::{Numbers, at, keep, put, text, write};
 
 // What has been read of a list. A line that is as long cannot be read.
@@ -64,19 +67,27 @@ fn move_front(input: &mut Input, from: usize, to: usize) {
     }
 }
 
+// Reads once, and answers how many octets came; none where the read fails.
+fn read_once<R: Read>(reader: &mut R, room: &mut [u8]) -> usize
+    ensures { result ≤ length room.new }
+{
+    match reader.read(room) {
+        Ok(count) => count,
+        Err(_) => 0,
+    }
+}
+
 // Reads more behind what there is, and answers where the input then ends.
-fn read_behind(fd: i32, input: &mut [u8], end: usize) -> usize {
+fn read_behind<R: Read>(reader: &mut R, input: &mut [u8], end: usize) -> usize {
     if end < input.len() {
-        let room = &mut input[end..];
-        let got = libc::read(fd, room);
-        let count = io::count(got, room);
+        let count = read_once(reader, &mut input[end..]);
         return end + count;
     }
     end
 }
 
 // Keeps what is not yet played in front, reads more behind it, and says whether there was more.
-fn is_more(fd: i32, input: &mut Input, regs: &mut Numbers) -> bool {
+fn is_more<R: Read>(reader: &mut R, input: &mut Input, regs: &mut Numbers) -> bool {
     let next = at(regs, NEXT, 0) as usize;
     let end = at(regs, END, 0) as usize;
     if end < next {
@@ -84,7 +95,7 @@ fn is_more(fd: i32, input: &mut Input, regs: &mut Numbers) -> bool {
     }
     move_front(input, next, end);
     let rest = end - next;
-    let now = read_behind(fd, input, rest);
+    let now = read_behind(reader, input, rest);
     keep(regs, NEXT, &[0, now as u64]);
     rest < now
 }
@@ -99,7 +110,7 @@ fn note(regs: &mut Numbers, begin: u64, stop: u64, next: u64) {
 }
 
 // Whether there is a next line, after one newline at least or before the input's end.
-pub fn is_line(fd: i32, input: &mut Input, regs: &mut Numbers) -> bool {
+pub fn is_line<R: Read>(reader: &mut R, input: &mut Input, regs: &mut Numbers) -> bool {
     let mut left: u32 = 65537;
     while 0 < left {
         let next = at(regs, NEXT, 0);
@@ -109,7 +120,7 @@ pub fn is_line(fd: i32, input: &mut Input, regs: &mut Numbers) -> bool {
             note(regs, next, stop as u64, text::behind(stop) as u64);
             return true;
         }
-        if !is_more(fd, input, regs) {
+        if !is_more(reader, input, regs) {
             return is_rest(regs);
         }
         left -= 1;

@@ -1,7 +1,5 @@
 pub mod Answers
-pub mod Drops
 pub mod Found
 pub mod Packed
 pub mod Packing
 pub mod Values
-pub mod Walk

@@ -1,8 +1,8 @@
 // The pager over the station's entries as a lent list (document 01, Form by location): each entry is
 // copied out of the list and given to the packing function, and what is answered is what the packed pager
-// of `pager` answers on the packed list. A function that holds such a list is proved by hand, so there are
-// four of them and they are short: one goes through the list, and three call it. The tests and the
-// arithmetic stand in functions that take what it found by value.
+// of `pager` answers on the packed list. Four functions hold such a list, and they are short: one goes
+// through the list, and three call it. The tests and the arithmetic stand in functions that take what it
+// found by value.
 #![tactic(auto)]
 
 ghost use Rattle.std.specs.Prelude.{◌≡◌};

@@ -1,16 +1,18 @@
 // Answers, written to standard output.
 use crate::{Numbers, WORDS, at, later, of_flag, places, text, to_u8};
 use asdu::{Cause, FtError};
-use libc::STDOUT_FILENO;
+
+// Standard output.
+const STDOUT: i32 = 1;
 
 // ---- Words, numbers and octets
 
 pub fn text(words: &[u8]) {
-    io::write_all(STDOUT_FILENO, words);
+    io::write_all(STDOUT, words);
 }
 
 pub fn number(n: u64) {
-    io::print_decimal(STDOUT_FILENO, n);
+    io::print_decimal(STDOUT, n);
 }
 
 // A number behind a space.

@@ -1,0 +1,10 @@
+-- The octets passed are copied; then the first is raised.
+use Rattle.std.proofs.Common.{◌≡◌, ◌-◌, ◌≤◌, length, take, refl, arith, length-set, rules}
+use Rattle.delivery.proofs.Raised.{copied_next, copied_all, raised_front, raised_none}
+use Rattle.delivery.proofs.noise.raise.Given as goal
+
+abbrev pub invariant-loop-i : goal.invariant-loop-i
+invariant-loop-i l = (l.i ≤ length l.payload) × (take l.i l.out ≡ take l.i l.payload) × (length l.out ≡ length l.initial.out)
+
+abbrev pub decreases-loop-i : goal.decreases-loop-i
+decreases-loop-i l = length l.payload - l.i

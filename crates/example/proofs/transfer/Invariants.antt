@@ -1,0 +1,4 @@
+use Rattle.example.proofs.transfer.Given as goal
+
+abbrev pub decreases-loop-left : goal.decreases-loop-left
+decreases-loop-left l = l.left

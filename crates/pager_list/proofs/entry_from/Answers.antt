@@ -1,0 +1,13 @@
+use borrow.Author.Tests.{not-true, not-false}
+use Rattle.laws.proofs.Decide.{whens}
+use Rattle.pager_list.specs.Seen.{entry_from}
+use Rattle.pager_list.proofs.entry_from.Goals as goal
+
+pub returns-then-not-seen : goal.returns-then-not-seen
+unfolding entry_from
+returns-then-not-seen c = simp (whens, not-true c.args.seen.right c.if-not-seen.true)
+
+pub returns : goal.returns
+unfolding entry_from
+returns c =
+    simp (whens, not-false c.args.seen.right c.if-not-seen.false, ← c.is_last.ensures, ← c.flagged_answer.ensures)
