@@ -4,10 +4,15 @@
 
 use asdu::FtError;
 use directory_page::PrintResult;
-use libc::{STDIN_FILENO, STDOUT_FILENO};
+
+// Standard input.
+const STDIN: i32 = 0;
+
+// Standard output.
+const STDOUT: i32 = 1;
 
 fn text(words: &[u8]) {
-    io::write_all(STDOUT_FILENO, words);
+    io::write_all(STDOUT, words);
 }
 
 // What a refusal says of the input. A page of 1,000 lines has room in the buffer, so none is 28.
@@ -26,7 +31,7 @@ fn reason(number: u8) {
 // `refused`, its number, and why, in one line.
 fn refused(error: FtError) {
     text(b"refused ");
-    io::print_decimal(STDOUT_FILENO, error.number() as u64);
+    io::print_decimal(STDOUT, error.number() as u64);
     text(b": ");
     reason(error.number());
     text(b"\n");
@@ -40,7 +45,7 @@ fn print(page: &[u8; 65536], length: usize) {
 // An input longer than the buffer is longer than the text of 1,000 entries, and so is its front.
 fn main() {
     let mut input = [0u8; 68001];
-    let length = io::read_full(STDIN_FILENO, &mut input);
+    let length = io::read_full(STDIN, &mut input);
     let mut page = io::large_buffer();
     match directory_text::write(&input[..length], &mut page) {
         PrintResult::Ok(count) => print(&page, count),

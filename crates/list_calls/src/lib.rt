@@ -1,6 +1,5 @@
-// For the test program: the pager over a lent list, over an array of entries by value. A function that
-// lends a list of records is proved by hand, so there is one, which calls all three of `pager_list`; its
-// callers here need no such proof.
+// For the test program: the pager over a lent list, over an array of entries by value. One function lends
+// the list, and calls all three of `pager_list`.
 #![tactic(auto)]
 
 ghost use Rattle.std.specs.Prelude.{◌≡◌, ◌≤◌, take, length};

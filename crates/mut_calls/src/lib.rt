@@ -1,5 +1,5 @@
 // For the test program: the Receiver's entry that changes the caller's record itself, over a record by
-// value. A function that lends a record is proved by hand; its callers here need no such proof.
+// value.
 #![tactic(auto)]
 
 ghost use Rattle.std.specs.Prelude.{◌≡◌};

@@ -22,22 +22,22 @@ overflow_add-result c = let a = c.args in
 pub returns-then-sum-chs : goal.returns-then-sum-chs
 unfolding section_closed
 returns-then-sum-chs c = simp (
-      whens,
-      yes c.is_held.ensures c.if-is_held.true,
-      ← c.cut.ensures,
-      ← c.checksum-sum.ensures,
-      eq-eqb _ _ c.if-sum-chs.true,
-    )
+  whens,
+  yes c.is_held.ensures c.if-is_held.true,
+  ← c.cut.ensures,
+  ← c.checksum-sum.ensures,
+  eq-eqb _ _ c.if-sum-chs.true,
+)
 
 pub returns-else-sum-chs : goal.returns-else-sum-chs
 unfolding section_closed
 returns-else-sum-chs c = simp (
-      whens,
-      yes c.is_held.ensures c.if-is_held.true,
-      ← c.cut.ensures,
-      ← c.checksum-sum.ensures,
-      ne_eqb _ _ c.if-sum-chs.false,
-    )
+  whens,
+  yes c.is_held.ensures c.if-is_held.true,
+  ← c.cut.ensures,
+  ← c.checksum-sum.ensures,
+  ne_eqb _ _ c.if-sum-chs.false,
+)
 
 pub returns-else-is_held : goal.returns-else-is_held
 unfolding section_closed

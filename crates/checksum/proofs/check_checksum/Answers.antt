@@ -1,5 +1,5 @@
 use Rattle.laws.proofs.Decide.{whens}
-use Rattle.std.proofs.Common.{rules, eq-eqb, ne_eqb}
+use Rattle.std.proofs.Common.{eq-eqb, ne_eqb}
 use Rattle.checksum.specs.Checksum.{checksum_checked}
 use Rattle.checksum.proofs.check_checksum.Goals as goal
 

@@ -1,5 +1,5 @@
 -- At every octet the sum is that after the octets passed.
-use Rattle.std.proofs.Common.{◌≡◌, ◌-◌, ◌≤◌, length, take, ap, ◌∙◌, arith, take_all, rules}
+use Rattle.std.proofs.Common.{ap, ◌∙◌, arith, take_all, rules}
 use Rattle.checksum.specs.Checksum.{octet_sum, sum_after}
 use Rattle.checksum.proofs.Sums.{sum_next}
 use Rattle.checksum.proofs.checksum.Goals as goal

@@ -1,7 +1,6 @@
 -- At every octet the sum is that after the octets passed.
-use Rattle.std.proofs.Common.{◌≡◌, ◌-◌, ◌≤◌, length, take, ap, ◌∙◌, arith, take_all, rules}
-use Rattle.checksum.specs.Checksum.{octet_sum, sum_after}
-use Rattle.checksum.proofs.Sums.{sum_next}
+use Rattle.std.proofs.Common.{◌≡◌, ◌-◌, ◌≤◌, length, take}
+use Rattle.checksum.specs.Checksum.{sum_after}
 use Rattle.checksum.proofs.checksum.Given as goal
 
 abbrev pub invariant-loop-i : goal.invariant-loop-i

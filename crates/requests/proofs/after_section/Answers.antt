@@ -1,5 +1,4 @@
 use Rattle.laws.proofs.Decide.{whens}
-use borrow.Author.Rules.{rules}
 use borrow.Author.Tests.{lt-ltb, le-ltb}
 use Rattle.requests.specs.Answers.{after_section}
 use Rattle.requests.proofs.after_section.Goals as goal

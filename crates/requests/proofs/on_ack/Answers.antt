@@ -1,6 +1,4 @@
-use Rattle.laws.proofs.Decide.{whens}
-use borrow.Author.Rules.{rules}
-use borrow.Author.Tests.{ne_eqb}
+use Rattle.laws.proofs.Decide.{whens, decide}
 use Rattle.requests.specs.Answers.{ack_answer}
 use Rattle.requests.proofs.on_ack.Goals as goal
 
@@ -18,9 +16,4 @@ returns-in-1 c = simp (whens, c.in-1.is)
 
 pub returns-in_default : goal.returns-in_default
 unfolding ack_answer
-returns-in_default c = simp (
-      whens,
-      ne_eqb _ _ c.in_default.in_default-own.rest.0.0.1,
-      ne_eqb _ _ c.in_default.in_default-own.rest.0.1,
-      ne_eqb _ _ c.in_default.in_default-own.rest.1,
-    )
+returns-in_default c = search decide

@@ -1,5 +1,4 @@
-use Rattle.laws.proofs.Decide.{whens}
-use borrow.Author.Tests.{ne_eqb}
+use Rattle.laws.proofs.Decide.{whens, decide}
 use Rattle.requests.specs.Answers.{sc_answer}
 use Rattle.requests.proofs.on_sc.Goals as goal
 
@@ -21,10 +20,4 @@ returns-in-6 c = simp (whens, c.in-6.is)
 
 pub returns-in_default : goal.returns-in_default
 unfolding sc_answer
-returns-in_default c = simp (
-      whens,
-      ne_eqb _ _ c.in_default.in_default-own.rest.0.0.0.1,
-      ne_eqb _ _ c.in_default.in_default-own.rest.0.0.1,
-      ne_eqb _ _ c.in_default.in_default-own.rest.0.1,
-      ne_eqb _ _ c.in_default.in_default-own.rest.1,
-    )
+returns-in_default c = search decide

@@ -1,5 +1,4 @@
 use mathlib.Core.Path.{refl}
-use borrow.Author.Rules.{rules}
 use Rattle.lists.specs.Parts.{div_ceil}
 use Rattle.sections.proofs.div_ceil.Goals as goal
 

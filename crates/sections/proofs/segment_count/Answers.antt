@@ -1,5 +1,4 @@
 use mathlib.Core.Path.{sym}
-use borrow.Author.Rules.{rules}
 use Rattle.sections.proofs.Cuts.{ceil_none}
 use Rattle.sections.proofs.segment_count.Goals as goal
 
