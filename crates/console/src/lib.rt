@@ -10,21 +10,23 @@ use asdu::{AddressSizes, FtError};
 use exchange::Sender;
 use frame::Frame;
 use ft::Role;
-use libc::STDOUT_FILENO;
 use run::RunResult;
 use script::{Outline, ScriptResult, read};
 use twoparty::{NextFrame, Settings, TwoParty, TwoPartyResult};
+
+// Standard output.
+const STDOUT: i32 = 1;
 
 // More frames than any script takes.
 const BUDGET: usize = 65535;
 
 fn text(words: &[u8]) {
-    io::write_all(STDOUT_FILENO, words);
+    io::write_all(STDOUT, words);
 }
 
 fn word_and_number(word: &[u8], n: u64) {
     text(word);
-    io::print_decimal(STDOUT_FILENO, n);
+    io::print_decimal(STDOUT, n);
     text(b"\n");
 }
 
