@@ -1,5 +1,4 @@
-use Rattle.laws.proofs.Decide.{whens}
-use borrow.Author.Tests.{ne_eqb}
+use Rattle.laws.proofs.Decide.{whens, decide}
 use Rattle.frame.specs.Frames.{receiver_side_type}
 use Rattle.frame.proofs.is_receiver_side_type.Goals as goal
 
@@ -17,4 +16,4 @@ returns-in-127 c = simp (whens, c.in-127.is)
 
 pub returns-in_default : goal.returns-in_default
 unfolding receiver_side_type
-returns-in_default c = simp (whens, ne_eqb _ _ c.in_default.in_default-own.rest.0.0.1, ne_eqb _ _ c.in_default.in_default-own.rest.0.1, ne_eqb _ _ c.in_default.in_default-own.rest.1)
+returns-in_default c = search decide

@@ -1,5 +1,4 @@
 use Rattle.laws.proofs.Decide.{whens}
-use borrow.Author.Rules.{rules}
 use borrow.Author.Tests.{eq-eqb, ne_eqb}
 use Rattle.frame.specs.Frames.{sc_cause}
 use Rattle.frame.proofs.sc_cause.Goals as goal

@@ -1,6 +1,4 @@
-use Rattle.laws.proofs.Decide.{whens}
-use borrow.Author.Rules.{rules}
-use borrow.Author.Tests.{ne_eqb}
+use Rattle.laws.proofs.Decide.{whens, decide}
 use Rattle.frame.specs.Answers.{ack_answered}
 use Rattle.frame.proofs.answer.ack_answered.Goals as goal
 
@@ -14,4 +12,4 @@ returns-in-4 c = simp (whens, c.in-4.is, ← c.is_one_of-in-4.ensures)
 
 pub returns-in_default : goal.returns-in_default
 unfolding ack_answered
-returns-in_default c = simp (whens, ne_eqb _ _ c.in_default.in_default-own.rest.0.1, ne_eqb _ _ c.in_default.in_default-own.rest.1)
+returns-in_default c = search decide

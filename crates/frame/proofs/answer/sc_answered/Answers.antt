@@ -1,7 +1,4 @@
-use Rattle.laws.proofs.Decide.{whens}
-use borrow.Author.Rules.{rules}
-use borrow.Author.Tests.{ne_eqb}
-use borrow.Author.Tests.{ne_eqb}
+use Rattle.laws.proofs.Decide.{whens, decide}
 use Rattle.frame.specs.Answers.{sc_answered}
 use Rattle.frame.proofs.answer.sc_answered.Goals as goal
 
@@ -16,12 +13,12 @@ returns-in-1 c = simp (whens, c.in-1.is, ← c.refuses-refused.ensures, ← c.ty
 pub returns-in-2 : goal.returns-in-2
 unfolding sc_answered
 returns-in-2 c = simp (
-      whens,
-      c.in-2.is,
-      ← c.file_answered.ensures,
-      ← c.refuses-refused.ensures,
-      ← c.type_id-t.ensures,
-    )
+  whens,
+  c.in-2.is,
+  ← c.file_answered.ensures,
+  ← c.refuses-refused.ensures,
+  ← c.type_id-t.ensures,
+)
 
 pub returns-in-5 : goal.returns-in-5
 unfolding sc_answered
@@ -30,21 +27,13 @@ returns-in-5 c = simp (whens, c.in-5.is, ← c.refuses-refused.ensures, ← c.ty
 pub returns-in-6 : goal.returns-in-6
 unfolding sc_answered
 returns-in-6 c = simp (
-      whens,
-      c.in-6.is,
-      ← c.section_answered.ensures,
-      ← c.refuses-refused.ensures,
-      ← c.type_id-t.ensures,
-    )
+  whens,
+  c.in-6.is,
+  ← c.section_answered.ensures,
+  ← c.refuses-refused.ensures,
+  ← c.type_id-t.ensures,
+)
 
 pub returns-in_default : goal.returns-in_default
 unfolding sc_answered
-returns-in_default c = let r = c.in_default.in_default-own.rest in
-    simp (
-      whens,
-      ne_eqb _ _ r.0.0.0.0.1,
-      ne_eqb _ _ r.0.0.0.1,
-      ne_eqb _ _ r.0.0.1,
-      ne_eqb _ _ r.0.1,
-      ne_eqb _ _ r.1,
-    )
+returns-in_default c = search decide

@@ -1,5 +1,4 @@
 use Rattle.laws.proofs.Decide.{whens, yes, nay}
-use borrow.Author.Rules.{rules}
 use Rattle.frame.specs.Ranges.{directory_in_range}
 use Rattle.frame.proofs.range.is_directory_in_range.Goals as goal
 

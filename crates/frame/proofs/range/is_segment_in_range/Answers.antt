@@ -1,5 +1,4 @@
 use Rattle.laws.proofs.Decide.{whens, yes, nay}
-use borrow.Author.Rules.{rules}
 use borrow.Author.Tests.{eq-eqb, ne_eqb}
 use Rattle.frame.specs.Ranges.{segment_in_range}
 use Rattle.frame.proofs.range.is_segment_in_range.Goals as goal
@@ -7,11 +6,11 @@ use Rattle.frame.proofs.range.is_segment_in_range.Goals as goal
 pub returns-then-los-length : goal.returns-then-los-length
 unfolding segment_in_range
 returns-then-los-length c = simp (
-      whens,
-      eq-eqb _ _ c.if-los-length.true,
-      yes c.is_in_range.ensures c.if-is_in_range.true,
-      ← c.max_segment.ensures,
-    )
+  whens,
+  eq-eqb _ _ c.if-los-length.true,
+  yes c.is_in_range.ensures c.if-is_in_range.true,
+  ← c.max_segment.ensures,
+)
 
 pub returns-else-los-length : goal.returns-else-los-length
 unfolding segment_in_range

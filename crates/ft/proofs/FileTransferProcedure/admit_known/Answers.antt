@@ -1,6 +1,5 @@
 use mathlib.Core.Path.{sym, ◌∙◌}
 use Rattle.laws.proofs.Decide.{when_yes, when_no}
-use borrow.Author.Rules.{rules}
 use Rattle.ft.specs.Admission.{admit_known}
 use Rattle.ft.proofs.FileTransferProcedure.admit_known.Goals as goal
 

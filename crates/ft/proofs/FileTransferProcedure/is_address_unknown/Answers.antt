@@ -1,5 +1,4 @@
 use Rattle.laws.proofs.Decide.{whens}
-use borrow.Author.Rules.{rules}
 use borrow.Author.Tests.{eq-eqb, ne_eqb}
 use Rattle.ft.proofs.FileTransferProcedure.is_address_unknown.Goals as goal
 

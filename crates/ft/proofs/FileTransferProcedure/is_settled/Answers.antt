@@ -1,5 +1,4 @@
 use Rattle.laws.proofs.Decide.{whens, yes, nay}
-use borrow.Author.Rules.{rules}
 use Rattle.ft.specs.Procedure.{settled}
 use Rattle.ft.proofs.FileTransferProcedure.is_settled.Goals as goal
 

@@ -1,4 +1,3 @@
-use borrow.Author.Rules.{rules}
 use Rattle.ft.specs.Admission.{on_answer}
 use Rattle.ft.proofs.FileTransferProcedure.on_answer.Goals as goal
 

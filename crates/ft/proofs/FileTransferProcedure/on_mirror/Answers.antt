@@ -1,5 +1,4 @@
 use Rattle.laws.proofs.Decide.{whens, yes, nay}
-use borrow.Author.Rules.{rules}
 use Rattle.ft.specs.Admission.{mirrored}
 use Rattle.ft.proofs.FileTransferProcedure.on_mirror.Goals as goal
 

@@ -1,4 +1,3 @@
-use borrow.Author.Rules.{rules}
 use Rattle.ft.specs.Admission.{serves}
 use Rattle.ft.proofs.FileTransferProcedure.serves.Goals as goal
 

@@ -1,5 +1,4 @@
 use Rattle.laws.proofs.Decide.{whens, yes, nay}
-use borrow.Author.Rules.{rules}
 use Rattle.ft.specs.Admission.{unserved, not_served}
 use Rattle.ft.proofs.FileTransferProcedure.unserved.Goals as goal
 

@@ -1,5 +1,4 @@
 use Rattle.laws.proofs.Decide.{whens, yes, nay}
-use borrow.Author.Rules.{rules}
 use Rattle.ft.specs.Procedure.{procedure_with}
 use Rattle.ft.proofs.FileTransferProcedure.with_address_sizes.Goals as goal
 

@@ -1,5 +1,4 @@
 use Rattle.laws.proofs.Decide.{whens}
-use borrow.Author.Rules.{rules}
 use Rattle.ft.proofs.Selection.uses.Goals as goal
 
 pub returns-then-self : goal.returns-then-self

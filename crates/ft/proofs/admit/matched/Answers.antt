@@ -1,5 +1,4 @@
 use Rattle.laws.proofs.Decide.{whens, yes, nay}
-use borrow.Author.Rules.{rules}
 use Rattle.ft.specs.Admission.{matched}
 use Rattle.ft.proofs.admit.matched.Goals as goal
 

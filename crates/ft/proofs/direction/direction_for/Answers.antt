@@ -1,5 +1,4 @@
 use Rattle.laws.proofs.Decide.{whens}
-use borrow.Author.Rules.{rules}
 use Rattle.ft.proofs.direction.direction_for.Goals as goal
 
 pub returns-then-receiver_side : goal.returns-then-receiver_side

@@ -1,5 +1,4 @@
 use Rattle.laws.proofs.Decide.{whens, yes, nay}
-use borrow.Author.Rules.{rules}
 use Rattle.ft.specs.Procedure.{addressed}
 use Rattle.ft.proofs.procedure.is_addressed.Goals as goal
 
