@@ -1,5 +1,5 @@
-// The library for programs in C and Rust: `rt staticlib exports` writes it. Each function is on numbers and
-// slices, and is proved and total like every public entry. A slice is two arguments, its address and its
+// The library for programs in C and Rust: `rt lib` here writes out/libexports.a. Each function is on numbers
+// and slices, and is proved and total like every public entry. A slice is two arguments, its address and its
 // length.
 #![tactic(auto)]
 

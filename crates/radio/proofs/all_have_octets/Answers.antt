@@ -19,10 +19,10 @@ returns-then-not-has_octets c = let a = c.args in
 
 pub loop-i-preserved : goal.loop-i-preserved
 loop-i-preserved c = let a = c.args in (
-      search rules,
-      rw (c.loop-i.invariant.1, all_from a.damage.now c.loop-i.i (omega arith) a.section_len a.file.now)
-          (simp (whens, yes c.has_octets.ensures c.if-not-has_octets.false)),
-    )
+  search rules,
+  rw (c.loop-i.invariant.1, all_from a.damage.now c.loop-i.i (omega arith) a.section_len a.file.now)
+      (simp (whens, yes c.has_octets.ensures c.if-not-has_octets.false)),
+)
 
 pub returns : goal.returns
 returns c = let a = c.args in
