@@ -1,4 +1,4 @@
-// Compiles the floor in C at -O3, and links the library that `rt staticlib exports` wrote.
+// Compiles the floor in C at -O3, and links the library that `tools/staticlib` wrote.
 use std::path::PathBuf;
 use std::process::{self, Command};
 use std::{env, fs};
@@ -24,7 +24,7 @@ fn main() {
     println!("cargo:rerun-if-changed=src/floor.c");
     // A copy, so that cargo finds nothing else in its folder.
     if let Err(why) = fs::copy(&library, out.join("libexports.a")) {
-        stop(&format!("{} cannot be read ({why}): run rt staticlib exports first", library.display()));
+        stop(&format!("{} cannot be read ({why}): run tools/staticlib first", library.display()));
     }
     let (source, object, archive) = (package.join("src/floor.c"), out.join("floor.o"), out.join("libfloor.a"));
     let text = |path: &PathBuf| path.display().to_string();

@@ -1,6 +1,5 @@
-// The library for programs in C and Rust: `rt lib` here writes out/libexports.a. Each function is on numbers
-// and slices, and is proved and total like every public entry. A slice is two arguments, its address and its
-// length.
+// What programs in C and Rust may call, on numbers and slices. Each function is proved and total like every
+// public entry. `exports_c` is the static library that gives these functions their names in C.
 #![tactic(auto)]
 
 ghost use Rattle.std.specs.Prelude.{◌≡◌};
@@ -72,8 +71,7 @@ fn end_frames(res: RunResult) -> usize
 }
 
 // The sum after the octets, modulo 256, from the sum so far, which is 0 before the first of them.
-#[unsafe(no_mangle)]
-pub extern "C" fn saqwinku_checksum(octets: &[u8], so_far: u8) -> u8
+pub fn saqwinku_checksum(octets: &[u8], so_far: u8) -> u8
     ensures { result ≡ sum_after so_far octets.now }
 {
     checksum::checksum(octets, so_far).value
@@ -81,8 +79,7 @@ pub extern "C" fn saqwinku_checksum(octets: &[u8], so_far: u8) -> u8
 
 // A two-party run with the Provider controlling, or controlled: 0 where it is whole, 255 where its budget is
 // spent, else the number of the refusal. How many frames passed is written to `frames`.
-#[unsafe(no_mangle)]
-pub extern "C" fn saqwinku_run(
+pub fn saqwinku_run(
     cause_octets: u8,
     common_address_octets: u8,
     information_object_address_octets: u8,

@@ -11,6 +11,6 @@ hand_over-requires c = let a = c.args in
 pub returns : goal.returns
 unfolding arriving
 returns c = (
-      simp (← c.is_hit-hit.ensures, ← c.header_of-header.ensures, ← c.payload_of-payload.ensures) c.hand_over.ensures.0,
-      simp (← c.is_hit-hit.ensures, ← c.header_of-header.ensures, ← c.payload_of-payload.ensures) c.hand_over.ensures.1,
-    )
+  simp (← c.is_hit-hit.ensures, ← c.header_of-header.ensures, ← c.payload_of-payload.ensures) c.hand_over.ensures.0,
+  simp (← c.is_hit-hit.ensures, ← c.header_of-header.ensures, ← c.payload_of-payload.ensures) c.hand_over.ensures.1,
+)

@@ -8,10 +8,10 @@ loop-i-init c = (search rules, refl, refl)
 
 pub loop-i-preserved : goal.loop-i-preserved
 loop-i-preserved c = let a = c.args in (
-      search rules,
-      copied_next a.payload.now c.loop-i.out c.loop-i.i (omega arith) (omega arith) c.loop-i.invariant.1,
-      rw length-set c.loop-i.invariant.2,
-    )
+  search rules,
+  copied_next a.payload.now c.loop-i.out c.loop-i.i (omega arith) (omega arith) c.loop-i.invariant.1,
+  rw length-set c.loop-i.invariant.2,
+)
 
 pub returns-then-payload-gt0 : goal.returns-then-payload-gt0
 returns-then-payload-gt0 c = let a = c.args in

@@ -7,21 +7,21 @@ use Rattle.provide.proofs.Provider.agrees.Goals as goal
 pub returns-then-self-max_ioa : goal.returns-then-self-max_ioa
 unfolding file_agrees
 returns-then-self-max_ioa c = simp (
-      whens,
-      le-leb _ _ c.if-self-max_ioa.true,
-      yes c.is_settled.ensures c.if-is_settled.true,
-      ← c.is_cut.ensures,
-      ← c.max_ioa.ensures,
-    )
+  whens,
+  le-leb _ _ c.if-self-max_ioa.true,
+  yes c.is_settled.ensures c.if-is_settled.true,
+  ← c.is_cut.ensures,
+  ← c.max_ioa.ensures,
+)
 
 pub returns-else-self-max_ioa : goal.returns-else-self-max_ioa
 unfolding file_agrees
 returns-else-self-max_ioa c = simp (
-      whens,
-      lt-leb _ _ c.if-self-max_ioa.false,
-      yes c.is_settled.ensures c.if-is_settled.true,
-      ← c.max_ioa.ensures,
-    )
+  whens,
+  lt-leb _ _ c.if-self-max_ioa.false,
+  yes c.is_settled.ensures c.if-is_settled.true,
+  ← c.max_ioa.ensures,
+)
 
 pub returns-else-is_settled : goal.returns-else-is_settled
 unfolding file_agrees

@@ -7,12 +7,12 @@ use Rattle.provide.proofs.Provider.is_ours.Goals as goal
 pub returns-then-ioa-self : goal.returns-then-ioa-self
 unfolding is_ours
 returns-then-ioa-self c = simp (
-      whens,
-      eq-eqb _ _ c.if-ioa-self.true,
-      ← c.nof_agree.ensures,
-      ← c.nof_of.ensures,
-      ← c.ioa.ensures,
-    )
+  whens,
+  eq-eqb _ _ c.if-ioa-self.true,
+  ← c.nof_agree.ensures,
+  ← c.nof_of.ensures,
+  ← c.ioa.ensures,
+)
 
 pub returns : goal.returns
 unfolding is_ours

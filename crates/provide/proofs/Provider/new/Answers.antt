@@ -11,26 +11,26 @@ returns-then-not-is_right c = simp (whens, nay c.is_right.ensures c.if-not-is_ri
 pub returns-then-not-is_addressed : goal.returns-then-not-is_addressed
 unfolding provider_made
 returns-then-not-is_addressed c = simp (
-      whens,
-      nay c.is_addressed.ensures c.if-not-is_addressed.true,
-      yes c.is_right.ensures c.if-not-is_right.false,
-    )
+  whens,
+  nay c.is_addressed.ensures c.if-not-is_addressed.true,
+  yes c.is_right.ensures c.if-not-is_right.false,
+)
 
 pub returns-then-longest-n : goal.returns-then-longest-n
 unfolding provider_made
 returns-then-longest-n c = simp (
-      whens,
-      lt-leb _ _ c.if-longest-n.true,
-      yes c.is_addressed.ensures c.if-not-is_addressed.false,
-      yes c.is_right.ensures c.if-not-is_right.false,
-    )
+  whens,
+  lt-leb _ _ c.if-longest-n.true,
+  yes c.is_addressed.ensures c.if-not-is_addressed.false,
+  yes c.is_right.ensures c.if-not-is_right.false,
+)
 
 pub returns : goal.returns
 unfolding provider_made
 returns c = simp (
-      whens,
-      le-leb _ _ c.if-longest-n.false,
-      yes c.is_addressed.ensures c.if-not-is_addressed.false,
-      yes c.is_right.ensures c.if-not-is_right.false,
-      ← c.fresh.ensures,
-    )
+  whens,
+  le-leb _ _ c.if-longest-n.false,
+  yes c.is_addressed.ensures c.if-not-is_addressed.false,
+  yes c.is_right.ensures c.if-not-is_right.false,
+  ← c.fresh.ensures,
+)

@@ -10,18 +10,18 @@ returns-then-not-agrees c = simp (whens, nay c.agrees.ensures c.if-not-agrees.tr
 pub returns-then-self : goal.returns-then-self
 unfolding provide
 returns-then-self c = simp (
-      whens,
-      c.if-self.true,
-      yes c.agrees.ensures c.if-not-agrees.false,
-      ← c.nothing.ensures,
-    )
+  whens,
+  c.if-self.true,
+  yes c.agrees.ensures c.if-not-agrees.false,
+  ← c.nothing.ensures,
+)
 
 pub returns : goal.returns
 unfolding provide
 returns c = simp (
-      whens,
-      c.if-self.false,
-      yes c.agrees.ensures c.if-not-agrees.false,
-      ← c.on_reaction.ensures,
-      ← c.on_asdu-reaction.ensures,
-    )
+  whens,
+  c.if-self.false,
+  yes c.agrees.ensures c.if-not-agrees.false,
+  ← c.on_reaction.ensures,
+  ← c.on_asdu-reaction.ensures,
+)

@@ -10,8 +10,8 @@ returns-then-is_ours c = simp (whens, yes c.is_ours.ensures c.if-is_ours.true, �
 pub returns : goal.returns
 unfolding on_request
 returns c = simp (
-      whens,
-      nay c.is_ours.ensures c.if-is_ours.false,
-      ← c.nothing.ensures,
-      ← c.counted.ensures,
-    )
+  whens,
+  nay c.is_ours.ensures c.if-is_ours.false,
+  ← c.nothing.ensures,
+  ← c.counted.ensures,
+)

@@ -26,23 +26,23 @@ segment_frame-requires c = let a = c.args in
 pub returns-then-index-count : goal.returns-then-index-count
 unfolding section_frame
 returns-then-index-count c = simp (
-      whens,
-      lt-ltb _ _ c.if-index-count.true,
-      ← c.segment_frame.ensures,
-      ← c.segment-payload.ensures,
-      ← c.segment_count-count.ensures,
-    )
+  whens,
+  lt-ltb _ _ c.if-index-count.true,
+  ← c.segment_frame.ensures,
+  ← c.segment-payload.ensures,
+  ← c.segment_count-count.ensures,
+)
 
 pub returns-then-index-count-2 : goal.returns-then-index-count-2
 unfolding section_frame
 returns-then-index-count-2 c = simp (
-      whens,
-      eq-eqb _ _ c.if-index-count-2.true,
-      le-ltb _ _ c.if-index-count.false,
-      ← c.close_frame.ensures,
-      ← c.octets-octets.ensures,
-      ← c.segment_count-count.ensures,
-    )
+  whens,
+  eq-eqb _ _ c.if-index-count-2.true,
+  le-ltb _ _ c.if-index-count.false,
+  ← c.close_frame.ensures,
+  ← c.octets-octets.ensures,
+  ← c.segment_count-count.ensures,
+)
 
 pub returns : goal.returns
 unfolding section_frame

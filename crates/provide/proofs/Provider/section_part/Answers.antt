@@ -14,11 +14,11 @@ overflow_cast-at c = let a = c.args in
 pub returns-then-index-count : goal.returns-then-index-count
 unfolding section_part
 returns-then-index-count c = simp (
-      whens,
-      lt-ltb _ _ c.if-index-count.true,
-      ← c.segment-payload.ensures,
-      ← c.segment_count-count.ensures,
-    ) (simp (← c.segment_start-start.ensures, ← c.limit.ensures))
+  whens,
+  lt-ltb _ _ c.if-index-count.true,
+  ← c.segment-payload.ensures,
+  ← c.segment_count-count.ensures,
+) (simp (← c.segment_start-start.ensures, ← c.limit.ensures))
 
 pub returns : goal.returns
 unfolding section_part

@@ -10,16 +10,16 @@ returns-then-not-is_right c = simp (whens, nay c.is_right.ensures c.if-not-is_ri
 pub returns-then-not-is_addressed : goal.returns-then-not-is_addressed
 unfolding receiver_made
 returns-then-not-is_addressed c = simp (
-      whens,
-      nay c.is_addressed.ensures c.if-not-is_addressed.true,
-      yes c.is_right.ensures c.if-not-is_right.false,
-    )
+  whens,
+  nay c.is_addressed.ensures c.if-not-is_addressed.true,
+  yes c.is_right.ensures c.if-not-is_right.false,
+)
 
 pub returns : goal.returns
 unfolding receiver_made
 returns c = simp (
-      whens,
-      yes c.is_addressed.ensures c.if-not-is_addressed.false,
-      yes c.is_right.ensures c.if-not-is_right.false,
-      ← c.fresh.ensures,
-    )
+  whens,
+  yes c.is_addressed.ensures c.if-not-is_addressed.false,
+  yes c.is_right.ensures c.if-not-is_right.false,
+  ← c.fresh.ensures,
+)

@@ -10,18 +10,18 @@ returns-then-closes_section c = simp (whens, yes c.closes_section.ensures c.if-c
 pub returns-then-closes_file : goal.returns-then-closes_file
 unfolding on_close on_section_close on_file_close
 returns-then-closes_file c = simp (
-      whens,
-      yes c.closes_file.ensures c.if-closes_file.true,
-      nay c.closes_section.ensures c.if-closes_section.false,
-      ← c.close_file-closed.ensures,
-    )
+  whens,
+  yes c.closes_file.ensures c.if-closes_file.true,
+  nay c.closes_section.ensures c.if-closes_section.false,
+  ← c.close_file-closed.ensures,
+)
     c.after_file_close.ensures
 
 pub returns : goal.returns
 unfolding on_close on_section_close on_file_close
 returns c = simp (
-      whens,
-      nay c.closes_file.ensures c.if-closes_file.false,
-      nay c.closes_section.ensures c.if-closes_section.false,
-      ← c.ends.ensures,
-    )
+  whens,
+  nay c.closes_file.ensures c.if-closes_file.false,
+  nay c.closes_section.ensures c.if-closes_section.false,
+  ← c.ends.ensures,
+)
