@@ -4,6 +4,7 @@ use frame_calls::{bodies, elements, frames, making, parts};
 use machine_calls::{providing, receiving};
 use octet_calls::{loads, pages};
 use station_calls::{kept, stations};
+use std::io::Read;
 use window_calls::kept::Places;
 use words::{Numbers, Octets, at, text, write};
 
@@ -149,7 +150,7 @@ fn is_read(
 // ---- A list
 
 // Plays a list, up to the first line that cannot be read, and says whether all could.
-pub fn is_played(fd: i32) -> bool {
+pub fn is_played<R: Read>(reader: &mut R) -> bool {
     let mut buffer = io::large_buffer();
     let mut regs = [0u64; 128];
     let mut places = [0u64; 259];
@@ -159,7 +160,7 @@ pub fn is_played(fd: i32) -> bool {
     let mut octets = [0u8; 9216];
     let mut left: u32 = 0xFFFF_FFFF;
     while 0 < left {
-        if !input::is_line(fd, &mut buffer, &mut regs) {
+        if !input::is_line(reader, &mut buffer, &mut regs) {
             return true;
         }
         let begin = at(&regs, input::BEGIN, 0) as usize;

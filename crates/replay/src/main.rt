@@ -3,44 +3,39 @@
 
 mod list; // the lines of a list
 
+use std::fs::File;
+use std::rt::Files;
+use std::{env, io};
 use words::write;
 
 // Plays the list of this name, and says whether every line of it could be read.
-fn is_played(name: &[u8]) -> bool {
-    let fd = os::open_read(name);
-    if fd < 0 {
-        write::text(name);
-        write::text(b" cannot be opened\n");
-        return false;
+fn is_played<R: Files>(rt: &R, name: &str) -> bool {
+    match File::open(rt, name) {
+        Ok(mut file) => list::is_played(&mut file),
+        Err(_) => {
+            write::text(name.as_bytes());
+            write::text(b" cannot be opened\n");
+            false
+        }
     }
-    let is_whole = list::is_played(fd);
-    libc::close(fd);
-    is_whole
-}
-
-// The same of the list that an argument names.
-fn is_argument_played(i: usize) -> bool {
-    let mut name = io::buffer();
-    let count = os::arg(i, &mut name);
-    is_played(&name[..count])
 }
 
 // The lists that the arguments name, up to the first that cannot be read.
-fn play_arguments(count: usize) {
-    let mut i = 1;
-    while i < count {
-        if !is_argument_played(i) {
+fn play_arguments<R: Files>(rt: &R, names: env::Args) {
+    for name in names.skip(1) {
+        if !is_played(rt, name.as_str()) {
             return;
         }
-        i += 1;
     }
 }
 
-fn main() {
-    let count = os::arg_count();
-    if count <= 1 {
-        list::is_played(libc::STDIN_FILENO);
+// An argument that is no text ends the program with an error, before any list.
+fn main(rt: HostRuntime) -> io::Result<()> {
+    let names = env::args(&rt)?;
+    if names.len() <= 1 {
+        list::is_played(&mut rt.stdin());
     } else {
-        play_arguments(count);
+        play_arguments(&rt, names);
     }
+    Ok(())
 }
