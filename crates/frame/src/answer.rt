@@ -190,6 +190,7 @@ pub fn answers_type(sent: Frame, answered: Frame) -> bool
 // Whether a frame answers the one sent, field by field as the standard lays them out: a type
 // identification (7.2.1.1) that answers it, the same object address (7.2.5), the same name of file
 // (7.2.6.33) where both have one, and the same name of section (7.2.6.34) where the request named one.
+#[tactic(auto, using(laws::proofs::Decide::decide), unfolding(crate::specs::Answers::answers_to))]
 pub fn answers(sent: Frame, answered: Frame) -> bool
     ensures { result ≡ answers_to sent answered }
 {

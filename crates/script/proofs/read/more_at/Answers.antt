@@ -1,5 +1,7 @@
 -- The digits passed make the value: what is left means the same with it as the whole did.
 use mathlib.Core.Path.{refl, sym, ◌∙◌}
+use mathlib.Core.Logic.{◌≢◌}
+use native.Mathlib.Omega.{arith}
 use borrow.Author.Rules.{rules}
 use lib.ListN.{drop}
 use Rattle.laws.proofs.Decide.{yes, nay}
@@ -10,7 +12,8 @@ pub loop-value-preserved : goal.loop-value-preserved
 loop-value-preserved c =
     let t = c.args.text.now in
     let d = digit t c.loop-value.next (yes c.is_digit_at.ensures c.if-not-is_digit_at.false) in
-    (search rules, rw c.digit_at.ensures.0 (sym (more_on t c.loop-value.next _ _ c.loop-value-test.true d c.if-value-eq0.false) ∙ c.loop-value.invariant.1))
+    let more : c.loop-value.value ≢ 0 = omega arith in
+    (search rules, rw c.digit_at.ensures.0 (sym (more_on t c.loop-value.next _ _ c.loop-value-test.true d more) ∙ c.loop-value.invariant.1))
 
 pub loop-value-init : goal.loop-value-init
 loop-value-init c = (search rules, refl)
