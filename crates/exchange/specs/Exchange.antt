@@ -4,7 +4,6 @@ use Rattle.laws.specs.When.{when}
 use Rattle.asdu.specs.Codes.{F_SG_NA_1}
 use Rattle.asdu.specs.declared.Header.{Header}
 use Rattle.asdu.specs.declared.UnknownField.TheVariants as U
-use Rattle.frame.specs.declared.Frame.{Frame}
 use Rattle.frame.specs.Frames.{type_of}
 use Rattle.ft.specs.Building.{header_of}
 use Rattle.ft.specs.declared.Received.TheVariants as D

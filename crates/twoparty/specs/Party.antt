@@ -3,7 +3,6 @@
 use Rattle.std.specs.Prelude.{ℕ, ◌+◌, Bool, List, leb, length}
 use Rattle.laws.specs.When.{when, unless, ◌and◌}
 use Rattle.asdu.specs.declared.FtError.TheVariants as E
-use Rattle.frame.specs.declared.Frame.{Frame}
 use Rattle.ft.specs.Directions.{other_role}
 use Rattle.ft.specs.declared.Role.{Role}
 use Rattle.ft.specs.declared.FileTransferProcedure.{FileTransferProcedure}

@@ -1,4 +1,3 @@
-use Rattle.std.proofs.Common.{rules}
 use Rattle.delivery.specs.Handed.{arriving}
 use Rattle.delivery.proofs.Short.{payload_short}
 use Rattle.delivery.proofs.hand_receiver.Goals as goal

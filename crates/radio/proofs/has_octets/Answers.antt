@@ -1,7 +1,6 @@
 use Prim.Native.Nat.{◌-◌}
 use mathlib.Core.Path.{sym}
 use native.Mathlib.Omega.{arith}
-use borrow.Author.Rules.{rules}
 use Rattle.sections.proofs.Cuts.{product_fits}
 use Rattle.radio.proofs.Damage.{none_named, none_of_none, begins_within}
 use Rattle.radio.proofs.has_octets.Goals as goal

@@ -1,10 +1,7 @@
 -- The namings counted so far and those of the entries to come are all of them.
-use Prim.Native.Nat.{◌+◌, ◌-◌, ◌≤◌}
-use mathlib.Core.Path.{◌≡◌}
 use native.Mathlib.Omega.{arith}
-use lib.ListN.{length, drop, drop_of_length-le}
+use lib.ListN.{drop_of_length-le}
 use borrow.Author.Rules.{rules}
-use Rattle.exchange.specs.Damaging.{namings}
 use Rattle.radio.proofs.Damage.{at_most_one, namings_from}
 use Rattle.radio.proofs.namings.Goals as goal
 

@@ -1,5 +1,4 @@
 use native.Mathlib.Nat.{sub-zero}
-use Rattle.std.proofs.Common.{rules}
 use Rattle.laws.proofs.Decide.{whens}
 use Rattle.delivery.proofs.noise.arriving.Goals as goal
 

@@ -1,5 +1,5 @@
 -- The octets passed are copied; then the first is raised.
-use Rattle.std.proofs.Common.{◌≡◌, ◌-◌, ◌≤◌, length, take, refl, arith, length-set, rules}
+use Rattle.std.proofs.Common.{refl, arith, length-set, rules}
 use Rattle.delivery.proofs.Raised.{copied_next, copied_all, raised_front, raised_none}
 use Rattle.delivery.proofs.noise.raise.Goals as goal
 

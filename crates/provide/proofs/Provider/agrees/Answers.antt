@@ -1,5 +1,4 @@
 use Rattle.laws.proofs.Decide.{whens, yes, nay}
-use borrow.Author.Rules.{rules}
 use borrow.Author.Tests.{le-leb, lt-leb}
 use Rattle.provide.specs.Record.{file_agrees}
 use Rattle.provide.proofs.Provider.agrees.Goals as goal

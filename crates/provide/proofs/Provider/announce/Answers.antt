@@ -1,6 +1,5 @@
 use mathlib.Core.Path.{sym}
 use Rattle.laws.proofs.Decide.{whens, yes, nay}
-use borrow.Author.Rules.{rules}
 use Rattle.provide.proofs.Announcing.{announced_is, announced_off}
 use Rattle.provide.proofs.Provider.announce.Goals as goal
 

@@ -1,5 +1,4 @@
 use Rattle.laws.proofs.Decide.{whens}
-use borrow.Author.Rules.{rules}
 use borrow.Author.Tests.{eq-eqb, ne_eqb}
 use Rattle.provide.specs.Replies.{only}
 use Rattle.provide.proofs.Provider.file_close_at.Goals as goal

@@ -1,5 +1,4 @@
 use Rattle.laws.proofs.Decide.{whens}
-use borrow.Author.Rules.{rules}
 use borrow.Author.Tests.{eq-eqb, ne_eqb}
 use Rattle.provide.specs.Requests.{is_ours}
 use Rattle.provide.proofs.Provider.is_ours.Goals as goal

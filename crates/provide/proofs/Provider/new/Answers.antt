@@ -1,5 +1,4 @@
 use Rattle.laws.proofs.Decide.{whens, yes, nay}
-use borrow.Author.Rules.{rules}
 use borrow.Author.Tests.{le-leb, lt-leb}
 use Rattle.provide.specs.Record.{provider_made}
 use Rattle.provide.proofs.Provider.new.Goals as goal

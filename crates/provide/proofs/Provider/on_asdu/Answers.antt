@@ -1,5 +1,4 @@
 use Rattle.laws.proofs.Decide.{whens, yes, nay}
-use borrow.Author.Rules.{rules}
 use Rattle.provide.specs.Requests.{provide}
 use Rattle.provide.proofs.Provider.on_asdu.Goals as goal
 

@@ -1,4 +1,3 @@
-use borrow.Author.Rules.{rules}
 use Rattle.provide.specs.Requests.{on_sc}
 use Rattle.provide.proofs.Provider.on_ours.Goals as goal
 

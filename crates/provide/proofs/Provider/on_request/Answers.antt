@@ -1,5 +1,4 @@
 use Rattle.laws.proofs.Decide.{whens, yes, nay}
-use borrow.Author.Rules.{rules}
 use Rattle.provide.specs.Requests.{on_request}
 use Rattle.provide.proofs.Provider.on_request.Goals as goal
 

@@ -1,5 +1,4 @@
 use Rattle.laws.proofs.Decide.{whens, yes, nay}
-use borrow.Author.Rules.{rules}
 use Rattle.provide.specs.Replies.{reply_payload}
 use Rattle.provide.proofs.Provider.reply_payload.Goals as goal
 

@@ -1,5 +1,4 @@
 use Rattle.laws.proofs.Decide.{whens}
-use borrow.Author.Rules.{rules}
 use borrow.Author.Tests.{eq-eqb, ne_eqb, le-leb, lt-leb}
 use Rattle.provide.proofs.record.is_cut.Goals as goal
 

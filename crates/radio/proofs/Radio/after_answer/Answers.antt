@@ -1,4 +1,3 @@
-use borrow.Author.Rules.{rules}
 use Rattle.laws.proofs.Decide.{whens, yes, nay}
 use Rattle.radio.proofs.Radio.after_answer.Goals as goal
 

@@ -1,5 +1,4 @@
 use Rattle.laws.proofs.Decide.{whens, yes, nay}
-use borrow.Author.Rules.{rules}
 use Rattle.radio.specs.Radio.{is_damaged}
 use Rattle.radio.proofs.Radio.is_damaged.Goals as goal
 

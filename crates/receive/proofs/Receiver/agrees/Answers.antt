@@ -1,5 +1,4 @@
 use Rattle.laws.proofs.Decide.{whens, yes, nay}
-use borrow.Author.Rules.{rules}
 use borrow.Author.Tests.{le-leb, lt-leb}
 use Rattle.receive.specs.Record.{store_agrees}
 use Rattle.receive.proofs.Receiver.agrees.Goals as goal

@@ -1,4 +1,3 @@
-use borrow.Author.Rules.{rules}
 use Rattle.receive.specs.Record.{awaited}
 use Rattle.receive.proofs.Receiver.awaited.Goals as goal
 

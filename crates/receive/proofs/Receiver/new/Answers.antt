@@ -1,5 +1,4 @@
 use Rattle.laws.proofs.Decide.{whens, yes, nay}
-use borrow.Author.Rules.{rules}
 use Rattle.receive.specs.Record.{receiver_made}
 use Rattle.receive.proofs.Receiver.new.Goals as goal
 

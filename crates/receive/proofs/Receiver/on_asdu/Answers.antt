@@ -1,5 +1,4 @@
 use Rattle.laws.proofs.Decide.{whens, yes, nay}
-use borrow.Author.Rules.{rules}
 use Rattle.receive.specs.Answers.{receive}
 use Rattle.receive.proofs.Telling.{told_is}
 use Rattle.receive.proofs.Receiver.on_asdu.Goals as goal

@@ -1,5 +1,4 @@
 use Rattle.laws.proofs.Decide.{whens, yes, nay}
-use borrow.Author.Rules.{rules}
 use Rattle.receive.specs.Answers.{on_section_close, on_file_close, on_close}
 use Rattle.receive.proofs.Receiver.on_close.Goals as goal
 

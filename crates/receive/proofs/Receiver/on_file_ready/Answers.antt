@@ -1,5 +1,4 @@
 use Rattle.laws.proofs.Decide.{whens}
-use borrow.Author.Rules.{rules}
 use Rattle.receive.specs.Answers.{on_file_ready}
 use Rattle.receive.proofs.Receiver.on_file_ready.Goals as goal
 

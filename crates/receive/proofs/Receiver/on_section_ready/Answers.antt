@@ -1,5 +1,4 @@
 use Rattle.laws.proofs.Decide.{whens}
-use borrow.Author.Rules.{rules}
 use Rattle.receive.specs.Answers.{on_section_ready}
 use Rattle.receive.proofs.Receiver.on_section_ready.Goals as goal
 

@@ -1,18 +1,6 @@
-use Prim.Native.Nat.{◌+◌, ◌≤◌}
-use native.Mathlib.Omega.{arith}
-use lib.ListN.{length}
 use Rattle.laws.proofs.Decide.{whens, yes, nay}
-use borrow.Author.Rules.{rules}
-use borrow.Author.Tests.{leb-true}
 use Rattle.receive.specs.Answers.{on_segment}
 use Rattle.receive.proofs.Receiver.on_segment.Goals as goal
-
--- LOST goal overflow-add-next add_next : tie.Need-overflow-add-next
--- LOST goal overflow-add-next add_next c =
--- LOST goal overflow-add-next     let a = c.args in
--- LOST goal overflow-add-next     let h : a.self.kept + a.self.staged + length a.payload.now ≤ length a.store.now =
--- LOST goal overflow-add-next     leb-true _ _ (yes c.write_at.ensures.0 c.if-write_at.true) in
--- LOST goal overflow-add-next     omega arith
 
 pub returns-then-write_at : goal.returns-then-write_at
 unfolding on_segment

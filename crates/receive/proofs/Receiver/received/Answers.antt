@@ -1,4 +1,3 @@
-use borrow.Author.Rules.{rules}
 use Rattle.receive.specs.Record.{received_octets}
 use Rattle.receive.proofs.Receiver.received.Goals as goal
 

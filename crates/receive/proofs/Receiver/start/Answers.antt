@@ -1,5 +1,4 @@
 use Rattle.laws.proofs.Decide.{whens, yes, nay}
-use borrow.Author.Rules.{rules}
 use Rattle.receive.specs.Record.{started}
 use Rattle.receive.proofs.Starting.{started_is}
 use Rattle.receive.proofs.Receiver.start.Goals as goal

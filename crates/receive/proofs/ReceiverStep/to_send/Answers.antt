@@ -1,5 +1,4 @@
 use Rattle.laws.proofs.Decide.{whens, yes, nay}
-use borrow.Author.Rules.{rules}
 use Rattle.receive.specs.Answers.{to_send}
 use Rattle.receive.proofs.ReceiverStep.to_send.Goals as goal
 

@@ -1,5 +1,4 @@
 use Rattle.laws.proofs.Decide.{whens, yes, nay}
-use borrow.Author.Rules.{rules}
 use Rattle.twoparty.specs.Party.{asked}
 use Rattle.twoparty.proofs.Queue.asked.Goals as goal
 

@@ -1,4 +1,3 @@
-use borrow.Author.Rules.{rules}
 use Rattle.twoparty.specs.Party.{advanced}
 use Rattle.twoparty.proofs.TwoParty.advance.Goals as goal
 

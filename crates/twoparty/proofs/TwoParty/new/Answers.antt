@@ -1,4 +1,3 @@
-use borrow.Author.Rules.{rules}
 use Rattle.twoparty.specs.Party.{party_made}
 use Rattle.twoparty.proofs.TwoParty.new.Goals as goal
 

@@ -1,4 +1,3 @@
-use borrow.Author.Rules.{rules}
 use Rattle.laws.proofs.Decide.{whens, yes, nay}
 use Rattle.twoparty.specs.Party.{next_frame}
 use Rattle.twoparty.proofs.TwoParty.next_frame.Goals as goal

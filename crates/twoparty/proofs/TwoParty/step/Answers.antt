@@ -1,4 +1,3 @@
-use borrow.Author.Rules.{rules}
 use Rattle.laws.proofs.Decide.{whens, yes, nay}
 use Rattle.twoparty.specs.Party.{party_stepped}
 use Rattle.twoparty.proofs.TwoParty.step.Goals as goal

@@ -1,5 +1,4 @@
 use borrow.Author.Tests.{le-leb, lt-leb}
-use borrow.Author.Rules.{rules}
 use Rattle.laws.proofs.Decide.{whens, yes, nay}
 use Rattle.twoparty.specs.Party.{with_provider}
 use Rattle.twoparty.proofs.TwoParty.with_provider.Goals as goal
