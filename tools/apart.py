@@ -36,7 +36,7 @@ def arguments(name, description):
 def program_of(name, given):
     path = given or os.path.join(ROOT, "target", "bin", name)
     if not os.path.isfile(path):
-        raise Trouble("no program at %s; to build it: rt check %s" % (given or os.path.join("target", "bin", name), name))
+        raise Trouble("no program at %s; to build it: tools/build %s" % (given or os.path.join("target", "bin", name), name))
     return os.path.abspath(path)
 
 

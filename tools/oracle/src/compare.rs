@@ -85,7 +85,7 @@ fn played(replay: &str, list: &str) -> String {
     let child = Command::new(replay).stdin(Stdio::piped()).stdout(Stdio::piped()).spawn();
     let mut child = child.unwrap_or_else(|why| {
         crate::stop(&format!(
-            "{replay} cannot be run ({why}): build it with 'rt check replay', or name it with --replay"
+            "{replay} cannot be run ({why}): build it with 'tools/build replay', or name it with --replay"
         ))
     });
     let mut input = child.stdin.take().expect("a pipe");
