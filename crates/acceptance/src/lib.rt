@@ -9,21 +9,23 @@ ghost use Rattle.acceptance.specs.Closed.{section_closed, file_closed};
 use asdu::Chs;
 
 // How many octets of the store are accepted, and how many after them are under way.
-#[derive(Clone, Copy)]
+#[derive(Clone, Copy, PartialEq, Eq)]
 pub struct Held {
     pub kept: usize,
     pub staged: usize,
 }
 
-// What a section's close comes to, and what is held after it.
-#[derive(Clone, Copy)]
+// What a section's close comes to, and what is held after it: cases, by which the acknowledgement goes, and no
+// flag.
+#[derive(Clone, Copy, PartialEq, Eq)]
 pub enum SectionClosed {
     Accepted(Held),
     Dropped(Held),
 }
 
-// What the file's close comes to, and what is held after it.
-#[derive(Clone, Copy)]
+// What the file's close comes to, and what is held after it: two endings of a transfer, neither of them a
+// refusal.
+#[derive(Clone, Copy, PartialEq, Eq)]
 pub enum FileClosed {
     Whole(Held),
     // The accepted octets have this sum, not the stated one.
@@ -34,16 +36,13 @@ pub enum FileClosed {
 pub fn close_section(held: Held, store: &[u8], chs: Chs) -> SectionClosed
     ensures { result ≡ section_closed held store.now chs }
 {
-    let kept = held.kept;
-    let staged = held.staged;
+    let Held { kept, staged } = held;
     let sum = checksum::checksum(sections::cut(store, kept, staged), 0);
-    if store::is_held(kept, staged, store.len()) {
-        if sum.value == chs.value {
-            return SectionClosed::Accepted(Held {
-                kept: kept + staged,
-                staged: 0,
-            });
-        }
+    if store::is_held(kept, staged, store.len()) && sum == chs {
+        return SectionClosed::Accepted(Held {
+            kept: kept + staged,
+            staged: 0,
+        });
     }
     SectionClosed::Dropped(Held { kept, staged: 0 })
 }
@@ -53,14 +52,11 @@ pub fn close_section(held: Held, store: &[u8], chs: Chs) -> SectionClosed
 pub fn close_file(held: Held, store: &[u8], chs: Chs) -> FileClosed
     ensures { result ≡ file_closed held store.now chs }
 {
-    let kept = held.kept;
-    let staged = held.staged;
+    let Held { kept, staged } = held;
     let expected = checksum::checksum(sections::cut(store, 0, kept), 0);
     let held = Held { kept, staged: 0 };
-    if store::is_held(kept, staged, store.len()) {
-        if expected.value == chs.value {
-            return FileClosed::Whole(held);
-        }
+    if store::is_held(kept, staged, store.len()) && expected == chs {
+        return FileClosed::Whole(held);
     }
     FileClosed::Differs { expected, held }
 }

@@ -9,6 +9,7 @@ use lib.Arith.{digits_div, digits_mod}
 use lib.ListN.{length, drop, get_or, drop_of_length-le}
 use lib.Seq.{drop-cons}
 use borrow.Author.Tests.{eqb-true, le-leb}
+use Rattle.std.specs.Prelude.{Err, Ok}
 use Rattle.laws.specs.When.{when, ◌and◌}
 use Rattle.laws.proofs.Decide.{whens}
 use Rattle.asdu.specs.Time.{time_in_range}
@@ -17,7 +18,6 @@ use Rattle.asdu.specs.declared.Sof.{Sof}
 use Rattle.asdu.specs.declared.Cp56Time2a.{Cp56Time2a}
 use Rattle.asdu.specs.declared.FtError.TheVariants.{ValueOutOfRange}
 use Rattle.asdu.specs.declared.DirectoryEntry.{DirectoryEntry}
-use Rattle.asdu.specs.declared.EntryResult.TheVariants.{Ok, Err}
 use Rattle.asdu.proofs.Octets.{thirteen}
 use Rattle.asdu.proofs.Range.{both, time_fits, entry_fits}
 

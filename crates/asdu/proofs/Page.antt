@@ -1,22 +1,24 @@
--- The reserved bits of the entries of a page, read at a place.
+-- The reserved bits of a page's entries, entry by entry; and a part of some octets from a place to their end.
+use mathlib.Core.Bool.{true}
 use mathlib.Core.Path.{◌≡◌}
-use mathlib.Core.List.{List}
-use Prim.Native.Nat.{ℕ, zero, suc, ◌+◌, ◌-◌, ◌<◌}
+use mathlib.Core.List.{List, ◌++◌}
+use Prim.Native.Nat.{ℕ, suc, ◌-◌, ◌/◌, ◌<◌}
 use native.Mathlib.Omega.{arith}
-use lib.ListN.{length, take, drop, length-drop}
-use lib.Seq.{get_or-take, drop-drop, take_all}
+use lib.ListN.{length, take, drop, length-drop, length-append}
+use lib.Seq.{take_all}
+use Rattle.std.proofs.lemmas.List.{take_at, drop_at}
 use Rattle.laws.specs.When.{◌and◌}
 use Rattle.asdu.specs.Entry.{reserved_clear, all_clear}
 
--- an entry's bits are those of its 13 octets, whatever follows
-clear_front : (o : List ℕ) → reserved_clear (take 13 o) ≡ reserved_clear o
-unfolding reserved_clear
-clear_front o = rw (get_or-take 13 o 9 0 (omega arith), get_or-take 13 o 11 0 (omega arith), get_or-take 13 o 12 0 (omega arith))
-
 -- one entry, and those after it
-pub clear_next : (o : List ℕ) (at n : ℕ) → 0 < n → all_clear n (drop at o) ≡ (reserved_clear (drop at o) and all_clear (n - 1) (drop (at + 13) o))
-clear_next o at zero h = absurd (omega arith)
-clear_next o at (suc n) h = let e : suc n - 1 ≡ n = omega arith in rw (clear_front (drop at o), drop-drop 13 at o, e)
+pub clear_next : (o x rest : List ℕ) → o ≡ x ++ rest → length x ≡ 13 → all_clear (length o / 13) o ≡ (reserved_clear x and all_clear (length rest / 13) rest)
+clear_next o x rest e thirteen =
+    let count : length (x ++ rest) / 13 ≡ suc (length rest / 13) = rw (length-append x rest, thirteen) (omega arith) in
+    rw (e, count, take_at x rest 13 thirteen, drop_at x rest 13 thirteen)
+
+-- no whole entry is left
+pub clear_none : (o : List ℕ) → length o < 13 → all_clear (length o / 13) o ≡ true
+clear_none o h = let none : length o / 13 ≡ 0 = omega arith in rw none
 
 -- a part from a place to the end is what is left there
 pub to_the_end : (o : List ℕ) (at : ℕ) → take (length o - at) (drop at o) ≡ drop at o

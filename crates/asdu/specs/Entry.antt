@@ -1,5 +1,5 @@
 -- The packed directory entry, as IEC 60870-5-101 lays out type 126: NOF 2 octets, LOF 3, SOF 1, time 7, the lowest octet of each number first.
-use Rattle.std.specs.Prelude.{ℕ, zero, suc, ◌+◌, ◌*◌, ◌/◌, ◌%◌, min, Bool, true, List, [], ◌∷◌, ◌++◌, eqb, length, take, drop, get_or}
+use Rattle.std.specs.Prelude.{ℕ, zero, suc, ◌+◌, ◌*◌, ◌/◌, ◌%◌, min, Bool, true, List, [], ◌∷◌, ◌++◌, eqb, length, take, drop, get_or, Result, Ok, Err, ⊤}
 use Rattle.laws.specs.When.{when, ◌and◌}
 use Rattle.asdu.specs.Elements.{lof_in_range, sof_in_range}
 use Rattle.asdu.specs.Time.{time_in_range}
@@ -10,10 +10,7 @@ use Rattle.asdu.specs.declared.Sof.{Sof}
 use Rattle.asdu.specs.declared.Cp56Time2a.{Cp56Time2a}
 use Rattle.asdu.specs.declared.DirectoryEntry.{DirectoryEntry}
 use Rattle.asdu.specs.declared.FtError.TheVariants.{ValueOutOfRange}
-use Rattle.asdu.specs.declared.EntryResult.{EntryResult}
-use Rattle.asdu.specs.declared.EntryResult.TheVariants as U
-use Rattle.asdu.specs.declared.Packed.{Packed}
-use Rattle.asdu.specs.declared.Packed.TheVariants as P
+use Rattle.asdu.specs.declared.FtError.{FtError}
 
 -- what the bits of the 13 octets can carry; a name has all of its 16 bits
 unfoldable pub entry_in_range : DirectoryEntry → Bool
@@ -108,16 +105,16 @@ reserved_clear o = eqb (get_or o 9 0 / 32 % 4) 0 and eqb (get_or o 11 0 / 16) 0 
 unfoldable pub packs : DirectoryEntry → List ℕ → Bool
 packs e out = entry_in_range e and eqb (length out) 13
 
-unfoldable pub pack_answer : DirectoryEntry → List ℕ → Packed
-pack_answer e out = when (packs e out) P.Ok (P.Err ValueOutOfRange)
+unfoldable pub pack_answer : DirectoryEntry → List ℕ → Result ⊤ FtError
+pack_answer e out = when (packs e out) (Ok tt) (Err ValueOutOfRange)
 
 -- the place afterwards: the octets, or as it came in
 unfoldable pub pack_into : DirectoryEntry → List ℕ → List ℕ
 pack_into e out = when (packs e out) (entry_octets e) out
 
 -- a broken length or a reserved bit that is set is 4
-unfoldable pub unpacked : List ℕ → EntryResult
-unpacked o = when (eqb (length o) 13 and reserved_clear o) (U.Ok (entry_of o)) (U.Err ValueOutOfRange)
+unfoldable pub unpacked : List ℕ → Result DirectoryEntry FtError
+unpacked o = when (eqb (length o) 13 and reserved_clear o) (Ok (entry_of o)) (Err ValueOutOfRange)
 
 -- of the first so many entries
 abbrev pub all_clear : ℕ → List ℕ → Bool

@@ -1,10 +1,9 @@
 -- The widths of a system's addresses and what they leave for a segment and a directory page (document 01, Settings).
-use Rattle.std.specs.Prelude.{ℕ, ◌+◌, ◌-◌, ◌/◌, min, Bool, eqb, leb}
+use Rattle.std.specs.Prelude.{ℕ, ◌+◌, ◌-◌, ◌/◌, min, Bool, eqb, leb, Result, Ok, Err}
 use Rattle.laws.specs.When.{when, ◌and◌}
 use Rattle.asdu.specs.declared.FtError.TheVariants.{InvalidAddressSizes}
 use Rattle.asdu.specs.declared.AddressSizes.{AddressSizes}
-use Rattle.asdu.specs.declared.SizesResult.{SizesResult}
-use Rattle.asdu.specs.declared.SizesResult.TheVariants.{Ok, Err}
+use Rattle.asdu.specs.declared.FtError.{FtError}
 
 unfoldable pub within : ℕ → ℕ → ℕ → Bool
 within low high x = leb low x and leb x high
@@ -17,7 +16,7 @@ sizes_right z =
     and within 1 3 z.information_object_address_octets
 
 -- the making of widths: 2 where they are not as above
-unfoldable pub sizes_made : AddressSizes → SizesResult
+unfoldable pub sizes_made : AddressSizes → Result AddressSizes FtError
 sizes_made z = when (sizes_right z) (Ok z) (Err InvalidAddressSizes)
 
 -- a cause of two octets carries the originator in its second

@@ -1,5 +1,6 @@
 // The elements of the file transfer, IEC 60870-5-101, 7.2.6.28 to 7.2.6.38. Each holds its value as
-// it is; `is_in_range` says whether the element's bits can carry it.
+// it is; `is_in_range` says whether the element's bits can carry it. Each is a type of its own, those of one
+// shape too: the standard's element, with its own range and its own definition in specs/.
 ghost use Rattle.std.specs.Prelude.{◌≡◌};
 ghost use Rattle.asdu.specs.Elements.{frq_in_range, srq_in_range, scq_in_range, afq_in_range, lof_in_range, los_in_range, sof_in_range};
 
@@ -44,13 +45,11 @@ impl Scq {
 
     pub const MAX: u8 = 15;
 
+    #[tactic(auto, using(laws::proofs::Decide::decide), unfolding(crate::specs::Elements::scq_in_range))]
     pub fn is_in_range(self) -> bool
         ensures { result ≡ scq_in_range self }
     {
-        if self.action <= Scq::MAX {
-            return self.error <= Scq::MAX;
-        }
-        false
+        self.action <= Scq::MAX && self.error <= Scq::MAX
     }
 }
 
@@ -75,13 +74,11 @@ impl Afq {
 
     pub const MAX: u8 = 15;
 
+    #[tactic(auto, using(laws::proofs::Decide::decide), unfolding(crate::specs::Elements::afq_in_range))]
     pub fn is_in_range(self) -> bool
         ensures { result ≡ afq_in_range self }
     {
-        if self.action <= Afq::MAX {
-            return self.error <= Afq::MAX;
-        }
-        false
+        self.action <= Afq::MAX && self.error <= Afq::MAX
     }
 }
 
@@ -111,13 +108,11 @@ impl Los {
     pub const MAX: u8 = 240;
 
     // A segment has at least one octet.
+    #[tactic(auto, using(laws::proofs::Decide::decide), unfolding(crate::specs::Elements::los_in_range))]
     pub fn is_in_range(self) -> bool
         ensures { result ≡ los_in_range self }
     {
-        if 1 <= self.value {
-            return self.value <= Los::MAX;
-        }
-        false
+        1 <= self.value && self.value <= Los::MAX
     }
 }
 

@@ -44,32 +44,23 @@ impl Unspecified {
     pub fn cause(self) -> Cause
         ensures { result ≡ unspecified_cause self }
     {
-        match self {
-            Unspecified::TypeIdentification => Cause {
-                value: Cause::UNKNOWN_TYPE_ID,
-            },
-            Unspecified::Cause => Cause {
-                value: Cause::UNKNOWN_CAUSE,
-            },
-            Unspecified::CommonAddress => Cause {
-                value: Cause::UNKNOWN_COMMON_ADDRESS,
-            },
-            Unspecified::InformationObjectAddress => Cause {
-                value: Cause::UNKNOWN_INFORMATION_OBJECT_ADDRESS,
-            },
-        }
+        let value = match self {
+            Unspecified::TypeIdentification => Cause::UNKNOWN_TYPE_ID,
+            Unspecified::Cause => Cause::UNKNOWN_CAUSE,
+            Unspecified::CommonAddress => Cause::UNKNOWN_COMMON_ADDRESS,
+            Unspecified::InformationObjectAddress => Cause::UNKNOWN_INFORMATION_OBJECT_ADDRESS,
+        };
+        Cause { value }
     }
 }
 
 // Whether the header is that of a mirror: an ASDU sent back, negative, with one of the causes 44 to
 // 47.
+#[tactic(auto, using(laws::proofs::Decide::decide), unfolding(crate::specs::Header::is_mirror))]
 pub fn is_mirror(header: Header) -> bool
     ensures { result ≡ is_mirror header }
 {
-    if header.negative {
-        if Cause::UNKNOWN_TYPE_ID <= header.cause.value {
-            return header.cause.value <= Cause::UNKNOWN_INFORMATION_OBJECT_ADDRESS;
-        }
-    }
-    false
+    header.negative
+        && Cause::UNKNOWN_TYPE_ID <= header.cause.value
+        && header.cause.value <= Cause::UNKNOWN_INFORMATION_OBJECT_ADDRESS
 }

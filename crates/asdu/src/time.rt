@@ -8,24 +8,15 @@ impl Cp56Time2a {
     pub const LEN: usize = 7;
 
     // Whether the octets' bits can carry every field. It is not whether there is such a day.
+    #[tactic(auto, using(laws::proofs::Decide::decide), unfolding(crate::specs::Time::time_in_range))]
     pub fn is_in_range(self) -> bool
         ensures { result ≡ time_in_range self }
     {
-        if 63 < self.minutes {
-            return false;
-        }
-        if 31 < self.hours {
-            return false;
-        }
-        if 31 < self.day_of_month {
-            return false;
-        }
-        if 7 < self.day_of_week {
-            return false;
-        }
-        if 15 < self.months {
-            return false;
-        }
-        self.years <= 127
+        self.minutes <= 63
+            && self.hours <= 31
+            && self.day_of_month <= 31
+            && self.day_of_week <= 7
+            && self.months <= 15
+            && self.years <= 127
     }
 }

@@ -1,10 +1,8 @@
 -- Elements and their octets: each comes back from its octet, and each octet from its element.
 use Prim.Native.Nat.{ℕ, ◌+◌, ◌*◌, ◌/◌, ◌%◌, ◌≤◌, ◌<◌}
-use mathlib.Core.Bool.{Bool, true, false}
-use mathlib.Core.Path.{◌≡◌, refl, sym, ◌∙◌}
+use mathlib.Core.Bool.{Bool}
+use mathlib.Core.Path.{◌≡◌}
 use native.Mathlib.Omega.{arith}
-use lib.Dec.{leb, eqb}
-use borrow.Author.Tests.{leb-true, leb-false, eq-eqb, ne_eqb}
 use Rattle.asdu.specs.Entry.{flag, bit_of}
 use Rattle.asdu.specs.declared.Frq.{Frq}
 use Rattle.asdu.specs.declared.Srq.{Srq}
@@ -13,15 +11,6 @@ use Rattle.asdu.specs.declared.Afq.{Afq}
 use Rattle.asdu.proofs.EntryLaws.{flag_times, bit_back, flag_bit}
 use Rattle.frame_body.specs.Elements.{frq_octet, srq_octet, scq_octet, afq_octet}
 use Rattle.body_reader.specs.Elements.{frq_of, srq_of, scq_of, afq_of}
-
--- the highest bit of an octet is a comparison
-pub top_bit : (x : ℕ) → x < 256 → leb 128 x ≡ bit_of 128 x
-unfolding bit_of
-top_bit x h = go (leb 128 x) refl
-  where
-    go : (b : Bool) → leb 128 x ≡ b → leb 128 x ≡ eqb (x / 128 % 2) 1
-    go true e = let k : 128 ≤ x = leb-true _ _ e in e ∙ sym (eq-eqb (x / 128 % 2) 1 (omega arith))
-    go false e = let k : x < 128 = leb-false _ _ e in e ∙ sym (ne_eqb (x / 128 % 2) 1 (λ z. omega arith))
 
 -- ---- element, octet, element
 

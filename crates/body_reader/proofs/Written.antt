@@ -8,6 +8,7 @@ use lib.Dec.{eqb, leb}
 use lib.ListN.{length, take, drop, get_or, length-drop}
 use lib.Seq.{take_all, take-length, take-append_seam, drop-cons}
 use borrow.Author.Tests.{leb-true, leb-false, le-leb, eq-eqb, eqb-true}
+use Rattle.std.specs.Prelude.{Ok, Err, Result}
 use Rattle.laws.specs.When.{when, unless, ◌and◌}
 use Rattle.laws.proofs.Decide.{whens}
 use Rattle.asdu.specs.Elements.{scq_in_range, afq_in_range, los_in_range}
@@ -23,11 +24,11 @@ use Rattle.frame.specs.Frames.{type_of, ioa_of}
 use Rattle.frame.specs.declared.Frame.{Frame}
 use Rattle.frame.specs.declared.Frame.TheVariants.{FileReady, SectionReady, Sc, LastSection, Ack, Segment, Directory, QueryLog}
 use Rattle.frame_body.specs.Body.{body_type, body_of, body_in_range, write_answer, out_after}
-use Rattle.frame_body.specs.declared.WriteResult.TheVariants as W
 use Rattle.frame_body.proofs.Bodies.{file_ready_fits, section_ready_fits, sc_fits, ack_fits}
 use Rattle.frame_body.proofs.Answers.{told_written, when_written}
-use Rattle.body_reader.specs.Reading.{los_of, elements_len, segment_formed, well_formed, frame_of, payload_in, read_answer, carried}
-use Rattle.body_reader.specs.declared.ReadResult.TheVariants.{Ok, Err}
+use Rattle.asdu.specs.declared.FtError.{FtError}
+use Rattle.body_reader.specs.declared.Body.{Body}
+use Rattle.body_reader.specs.Reading.{los_of, elements_len, segment_formed, well_formed, frame_of, payload_in, reading, read_answer, carried}
 use Rattle.body_reader.proofs.Elements.{frq_back, srq_back, scq_back, afq_back, flagged_again}
 use Rattle.body_reader.proofs.Bodies.{segment_long}
 
@@ -36,7 +37,7 @@ use Rattle.body_reader.proofs.Bodies.{segment_long}
 -- the frame and the payload are what reading this body of this type and object address gives
 abbrev pub Reads : Frame → List ℕ → List ℕ → Type 0
 Reads f payload o =
-    (read_answer (type_of f) (ioa_of f) o ≡ Ok f (payload_in (type_of f) o)) × (part_octets (payload_in (type_of f) o) o ≡ carried f payload)
+    (read_answer (type_of f) (ioa_of f) o ≡ Ok (reading f (payload_in (type_of f) o))) × (part_octets (payload_in (type_of f) o) o ≡ carried f payload)
 
 -- of a segment in range, the test of its body
 formed_segment : (los : Los) (p : List ℕ) (a b c : ℕ) → (los_in_range los and eqb los.value (length p)) ≡ true
@@ -70,24 +71,28 @@ body_read (Segment ioa nof nos los) p t h =
 body_read (Directory ioa cause) p t h = absurd (true≢false (sym t))
 body_read (QueryLog ioa nof start stop) p t h = absurd (true≢false (sym t))
 
+-- what two readings that are the same say is the same
+same_body : {x y : Body} → ◌≡◌ {A = Result Body FtError} (Ok x) (Ok y) → x ≡ y
+same_body e = cc
+
 -- no two frames of one type and object address have the same body
 pub one_body_one_frame : (f g : Frame) (p q : List ℕ) → type_of f ≡ type_of g → ioa_of f ≡ ioa_of g → body_type (type_of f) ≡ true
     → body_in_range f p ≡ true → body_in_range g q ≡ true → body_of f p ≡ body_of g q → (f ≡ g) × (carried f p ≡ carried g q)
 one_body_one_frame f g p q t a k h j e =
     let x = body_read f p k h in
     let y = body_read g q (rw (← t) k) j in
-    let one : Ok f (payload_in (type_of g) (body_of g q)) ≡ Ok g (payload_in (type_of g) (body_of g q)) = sym (rw (t, a, e) at x.0) ∙ y.0 in
-    (cc, sym (rw (t, e) at x.1) ∙ y.1)
+    let place = payload_in (type_of g) (body_of g q) in
+    let one : ◌≡◌ {A = Result Body FtError} (Ok (reading f place)) (Ok (reading g place)) = sym (rw (t, a, e) at x.0) ∙ y.0 in
+    (ap (λ (b : Body). b.frame) (same_body one), sym (rw (t, e) at x.1) ∙ y.1)
 
 -- ---- body, frame, body
 
 -- by two tests, one after the other
-passed : (a b : Bool) (f g : Frame) (p q : Part) → unless a (Err UnsupportedType) (unless b (Err MalformedBody) (Ok f p)) ≡ Ok g q
-    → (a ≡ true) × (b ≡ true) × (g ≡ f) × (q ≡ p)
+passed : (a b : Bool) (x y : Body) → unless a (Err UnsupportedType) (unless b (Err MalformedBody) (Ok x)) ≡ Ok y → (a ≡ true) × (b ≡ true) × (y ≡ x)
 unfolding when
-passed true true f g p q e = (refl, refl, cc, cc)
-passed true false f g p q e = let z : ◌≡◌ {A = ℕ} 0 1 = cc in absurd (omega arith)
-passed false b f g p q e = let z : ◌≡◌ {A = ℕ} 0 1 = cc in absurd (omega arith)
+passed true true x y e = (refl, refl, cc)
+passed true false x y e = let z : ◌≡◌ {A = ℕ} 0 1 = cc in absurd (omega arith)
+passed false b x y e = let z : ◌≡◌ {A = ℕ} 0 1 = cc in absurd (omega arith)
 
 -- what holds of k, and of every number above it, holds of every number from k on
 from : (P : ℕ → Type 0) (t k : ℕ) → P k → k ≤ t → (k < t → P t) → P t
@@ -195,13 +200,15 @@ module _ (ioa : ℕ) (o : List ℕ) (small : (i : ℕ) → get_or o i 0 < 256) w
   again_125 h = (refl, refl, segment_range h, name_again _ ∙ rw (payload_rest h) (front_places h))
 
 -- what is read is of the type and object address that were handed in, is in range, and its body is the one that was read
-pub read_body : (t ioa : ℕ) (o : List ℕ) (f : Frame) (q : Part) → ((i : ℕ) → get_or o i 0 < 256) → read_answer t ioa o ≡ Ok f q
+pub read_body : (t ioa : ℕ) (o : List ℕ) (f : Frame) (q : Part) → ((i : ℕ) → get_or o i 0 < 256) → read_answer t ioa o ≡ Ok (reading f q)
     → (type_of f ≡ t) × (ioa_of f ≡ ioa) × (body_type t ≡ true) × (body_in_range f (part_octets q o) ≡ true) × (body_of f (part_octets q o) ≡ o)
 unfolding read_answer
 read_body t ioa o f q small e =
-    let k = passed (body_type t) (well_formed t o) (frame_of t ioa o) f (payload_in t o) q e in
+    let k = passed (body_type t) (well_formed t o) (reading (frame_of t ioa o) (payload_in t o)) (reading f q) e in
+    let frame : f ≡ frame_of t ioa o = ap (λ (b : Body). b.frame) k.2 in
+    let payload : q ≡ payload_in t o = ap (λ (b : Body). b.payload) k.2 in
     let again = by_type (Again ioa o small) (again_120 ioa o small) (again_121 ioa o small) (again_122 ioa o small) (again_123 ioa o small) (again_124 ioa o small) (again_125 ioa o small) t k.0 k.1 in
-    rw (k.2, k.3) (again.0, again.1, k.0, again.2, again.3)
+    rw (frame, payload) (again.0, again.1, k.0, again.2, again.3)
 
 -- ---- with the writer
 
@@ -211,15 +218,15 @@ unfolding written
 body_front o out = take-append_seam o (drop (0 + length o) out)
 
 -- what was written is read as the frame and the payload that were handed in
-pub written_read : (f : Frame) (p out : List ℕ) (n : ℕ) → write_answer f p (length out) ≡ W.Ok n → Reads f p (take n (out_after f p out))
+pub written_read : (f : Frame) (p out : List ℕ) (n : ℕ) → write_answer f p (length out) ≡ Ok n → Reads f p (take n (out_after f p out))
 written_read f p out n e =
     let k = when_written f p (length out) n e in
     let told = told_written f p out (k.0, k.1) k.2 in
     rw (k.3, ← told.1, body_front (body_of f p) out) (body_read f p k.0 k.1)
 
 -- what was read is written into any buffer that has room for it as the octets that it was read from
-pub read_written : (t ioa : ℕ) (o out : List ℕ) (f : Frame) (q : Part) → ((i : ℕ) → get_or o i 0 < 256) → read_answer t ioa o ≡ Ok f q → length o ≤ length out
-    → (write_answer f (part_octets q o) (length out) ≡ W.Ok (length o)) × (out_after f (part_octets q o) out ≡ written out 0 o)
+pub read_written : (t ioa : ℕ) (o out : List ℕ) (f : Frame) (q : Part) → ((i : ℕ) → get_or o i 0 < 256) → read_answer t ioa o ≡ Ok (reading f q) → length o ≤ length out
+    → (write_answer f (part_octets q o) (length out) ≡ Ok (length o)) × (out_after f (part_octets q o) out ≡ written out 0 o)
 read_written t ioa o out f q small e room =
     let k = read_body t ioa o f q small e in
     let kind : body_type (type_of f) ≡ true = rw k.0 k.2 in

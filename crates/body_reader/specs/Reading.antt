@@ -1,5 +1,5 @@
 -- What reading a frame's body answers (document 02, A9): the frame of a type and an object address whose elements these octets are, laid out as IEC 60870-5-101, 7.3.6.1 to 7.3.6.6, figures 83 to 88, have them.
-use Rattle.std.specs.Prelude.{ℕ, ◌+◌, Bool, List, [], eqb, leb, length, get_or}
+use Rattle.std.specs.Prelude.{ℕ, ◌+◌, Bool, List, [], eqb, leb, length, get_or, Result, Ok, Err}
 use Rattle.laws.specs.When.{when, unless, ◌and◌}
 use Rattle.asdu.specs.Codes.{F_FR_NA_1, F_SR_NA_1, F_SC_NA_1, F_LS_NA_1, F_AF_NA_1, F_SG_NA_1}
 use Rattle.asdu.specs.Elements.{los_in_range}
@@ -16,8 +16,8 @@ use Rattle.frame.specs.declared.Frame.{Frame}
 use Rattle.frame.specs.declared.Frame.TheVariants.{FileReady, SectionReady, Sc, LastSection, Ack, Segment}
 use Rattle.frame_body.specs.Body.{body_type}
 use Rattle.body_reader.specs.Elements.{frq_of, srq_of, scq_of, afq_of}
-use Rattle.body_reader.specs.declared.ReadResult.{ReadResult}
-use Rattle.body_reader.specs.declared.ReadResult.TheVariants.{Ok, Err}
+use Rattle.body_reader.specs.declared.Body.{Body}
+use Rattle.asdu.specs.declared.FtError.{FtError}
 
 -- ---- elements by their places, counted from 0
 
@@ -62,12 +62,16 @@ frame_of t ioa o =
 unfoldable pub payload_in : ℕ → List ℕ → Part
 payload_in t o = when (eqb t F_SG_NA_1) (record { start = 4; length = (los_of o).value }) no_part
 
+-- a frame, and the part of the body that is its payload
+abbrev pub reading : Frame → Part → Body
+reading f q = record { frame = f; payload = q }
+
 -- 29 is tested first, then 31; nothing else can be wrong
-unfoldable pub read_answer : ℕ → ℕ → List ℕ → ReadResult
+unfoldable pub read_answer : ℕ → ℕ → List ℕ → Result Body FtError
 read_answer t ioa o =
     unless (body_type t) (Err UnsupportedType)
     (unless (well_formed t o) (Err MalformedBody)
-    (Ok (frame_of t ioa o) (payload_in t o)))
+    (Ok (reading (frame_of t ioa o) (payload_in t o))))
 
 -- ---- beside the writing
 

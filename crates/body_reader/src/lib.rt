@@ -4,23 +4,22 @@
 // body's, or the one that LOS says.
 #![tactic(auto)]
 
-ghost use Rattle.std.specs.Prelude.{◌≡◌, ◌+◌, ◌≤◌, length, get_or};
+ghost use Rattle.std.specs.Prelude.{◌≡◌, ◌/◌, ◌%◌, ◌+◌, ◌≤◌, length, get_or};
 ghost use Rattle.frame.specs.declared.Frame.TheVariants as F;
-ghost use Rattle.asdu.specs.Entry.{nof_at, lof_at};
+ghost use Rattle.asdu.specs.Entry.{bit_of, nof_at, lof_at};
 ghost use Rattle.body_reader.specs.Elements.{frq_of, srq_of, scq_of, afq_of};
 ghost use Rattle.body_reader.specs.Reading.{nos_of, lsq_of, chs_of, los_of, elements_len, segment_formed, well_formed, frame_of, payload_in, read_answer};
 
-use asdu::entry::{three_of, two_of};
 use asdu::{Afq, Chs, Frq, FtError, Lof, Los, Lsq, Nof, Nos, Scq, Srq, TypeId};
 use frame::Frame;
 use frame_body::is_body_type;
 use sections::Part;
 
-// What reading a body answers: its frame, and where its payload stands; or why there is none.
-#[derive(Clone, Copy)]
-pub enum ReadResult {
-    Ok { frame: Frame, payload: Part },
-    Err(FtError),
+// What a body says: its frame, and where its payload stands in it.
+#[derive(Clone, Copy, PartialEq, Eq)]
+pub struct Body {
+    pub frame: Frame,
+    pub payload: Part,
 }
 
 // The octets in front of a segment's payload: NOF, NOS and LOS.
@@ -28,44 +27,50 @@ const SEGMENT_FRONT: usize = 4;
 
 // ---- Elements
 
-// FRQ: the flag is bit 7, counted from 0.
+// The value of FRQ and SRQ, and their flag, which is bit 7, counted from 0.
+#[tactic(auto, unfolding(asdu::specs::Entry::bit_of))]
+fn value_and_flag(octet: u8) -> (u8, bool)
+    ensures { result ≡ (octet % 128, bit_of 128 octet) }
+{
+    (octet % 128, octet / 128 % 2 == 1)
+}
+
+// The action of SCQ and AFQ, which is the low four bits, and their error, the high four.
+fn action_and_error(octet: u8) -> (u8, u8)
+    ensures { result ≡ (octet % 16, octet / 16) }
+{
+    (octet % 16, octet / 16)
+}
+
 fn frq_of(frq: u8) -> Frq
     ensures { result ≡ frq_of frq }
 {
+    let (value, negative_confirm) = value_and_flag(frq);
     Frq {
-        value: frq % 128,
-        negative_confirm: 128 <= frq,
+        value,
+        negative_confirm,
     }
 }
 
-// SRQ: the same.
 fn srq_of(srq: u8) -> Srq
     ensures { result ≡ srq_of srq }
 {
-    Srq {
-        value: srq % 128,
-        not_ready: 128 <= srq,
-    }
+    let (value, not_ready) = value_and_flag(srq);
+    Srq { value, not_ready }
 }
 
-// SCQ: the action is the low four bits, the error the high four.
 fn scq_of(scq: u8) -> Scq
     ensures { result ≡ scq_of scq }
 {
-    Scq {
-        action: scq % 16,
-        error: scq / 16,
-    }
+    let (action, error) = action_and_error(scq);
+    Scq { action, error }
 }
 
-// AFQ: the same.
 fn afq_of(afq: u8) -> Afq
     ensures { result ≡ afq_of afq }
 {
-    Afq {
-        action: afq % 16,
-        error: afq / 16,
-    }
+    let (action, error) = action_and_error(afq);
+    Afq { action, error }
 }
 
 // The name of file, which every body begins with.
@@ -74,7 +79,7 @@ fn nof_of(body: &[u8]) -> Nof
     ensures { result ≡ nof_at body.now 0 }
 {
     Nof {
-        value: two_of(body[0], body[1]),
+        value: u16::from_le_bytes([body[0], body[1]]),
     }
 }
 
@@ -84,7 +89,7 @@ fn lof_at(body: &[u8], place: usize) -> Lof
     ensures { result ≡ lof_at body.now place }
 {
     Lof {
-        value: three_of(body[place], body[place + 1], body[place + 2]),
+        value: u32::from_le_bytes([body[place], body[place + 1], body[place + 2], 0]),
     }
 }
 
@@ -96,7 +101,7 @@ fn nos_of(body: &[u8]) -> Nos
     Nos { value: body[2] }
 }
 
-// ---- Bodies
+// ---- Bodies. Each reads at its places of the body, which the figures count from its front.
 
 // 120: NOF, LOF, FRQ.
 fn file_ready(ioa: u32, body: &[u8]) -> Frame
@@ -179,6 +184,7 @@ fn segment(ioa: u32, body: &[u8]) -> Frame
 }
 
 // The frame of a type whose elements a body has.
+#[tactic(auto, using(laws::proofs::Decide::decide), unfolding(crate::specs::Reading::frame_of))]
 fn frame_of(type_id: u8, ioa: u32, body: &[u8]) -> Frame
     requires { elements_len type_id ≤ length body.now }
     ensures { result ≡ frame_of type_id ioa body.now }
@@ -196,6 +202,7 @@ fn frame_of(type_id: u8, ioa: u32, body: &[u8]) -> Frame
 // ---- Reading
 
 // How many octets the elements have; of a segment, those in front of its payload.
+#[tactic(auto, using(laws::proofs::Decide::decide), unfolding(crate::specs::Reading::elements_len))]
 fn elements_len(type_id: u8) -> usize
     ensures { result ≡ elements_len type_id }
 {
@@ -208,20 +215,17 @@ fn elements_len(type_id: u8) -> usize
 }
 
 // Whether there is a LOS, 1 to 240, and as many octets follow it.
+#[tactic(auto, using(laws::proofs::Decide::decide), unfolding(crate::specs::Reading::segment_formed, crate::specs::Reading::los_of))]
 fn is_segment(body: &[u8]) -> bool
     ensures { result ≡ segment_formed body.now }
 {
-    if body.len() < SEGMENT_FRONT {
-        return false;
-    }
-    let los = body[3];
-    if (Los { value: los }).is_in_range() {
-        return body.len() == SEGMENT_FRONT + los as usize;
-    }
-    false
+    body.len() >= SEGMENT_FRONT
+        && Los { value: body[3] }.is_in_range()
+        && body.len() == SEGMENT_FRONT + usize::from(body[3])
 }
 
 // Whether a body is as long as its type, or its LOS, says.
+#[tactic(auto, using(laws::proofs::Decide::decide), unfolding(crate::specs::Reading::well_formed))]
 fn is_well_formed(type_id: u8, body: &[u8]) -> bool
     ensures { result ≡ well_formed type_id body.now }
 {
@@ -232,6 +236,7 @@ fn is_well_formed(type_id: u8, body: &[u8]) -> bool
 }
 
 // Where the payload stands: a segment's behind its LOS; other types have none.
+#[tactic(auto, using(laws::proofs::Decide::decide), unfolding(crate::specs::Reading::payload_in))]
 fn payload_in(type_id: u8, body: &[u8]) -> Part
     requires { elements_len type_id ≤ length body.now }
     ensures { result ≡ payload_in type_id body.now }
@@ -239,28 +244,27 @@ fn payload_in(type_id: u8, body: &[u8]) -> Part
     if type_id == TypeId::F_SG_NA_1 {
         return Part {
             start: SEGMENT_FRONT,
-            length: body[3] as usize,
+            length: usize::from(body[3]),
         };
     }
-    Part {
-        start: 0,
-        length: 0,
-    }
+    Part::NONE
 }
 
 // Reads the body of a frame of this type and object address, and answers the frame and where its payload stands in the
 // body: the octets themselves are `payload.octets(body)`. 29, then 31: every body that `frame_body::write` can have
 // written is read, and no other.
-pub fn read(type_id: u8, ioa: u32, body: &[u8]) -> ReadResult
+#[tactic(auto, using(laws::proofs::Decide::decide), unfolding(crate::specs::Reading::read_answer))]
+pub fn read(type_id: u8, ioa: u32, body: &[u8]) -> Result<Body, FtError>
     ensures { result ≡ read_answer type_id ioa body.now }
 {
     if !is_body_type(type_id) {
-        return ReadResult::Err(FtError::UnsupportedType);
+        return Err(FtError::UnsupportedType);
     }
     if !is_well_formed(type_id, body) {
-        return ReadResult::Err(FtError::MalformedBody);
+        return Err(FtError::MalformedBody);
     }
-    let frame = frame_of(type_id, ioa, body);
-    let payload = payload_in(type_id, body);
-    ReadResult::Ok { frame, payload }
+    Ok(Body {
+        frame: frame_of(type_id, ioa, body),
+        payload: payload_in(type_id, body),
+    })
 }

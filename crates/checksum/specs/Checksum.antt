@@ -1,10 +1,10 @@
 -- CHS, IEC 60870-5-101, 7.2.6.37: the sum of all octets, modulo 256.
-use Rattle.std.specs.Prelude.{ℕ, ◌+◌, ◌%◌, List, [], ◌∷◌, ◌==◌}
+use Rattle.std.specs.Prelude.{ℕ, ◌+◌, ◌%◌, List, [], ◌∷◌, ◌==◌, Result, Ok, Err, ⊤}
 use Rattle.laws.specs.When.{when}
 use Rattle.asdu.specs.declared.Chs.{Chs}
+use Rattle.asdu.specs.declared.FtError.{FtError}
 use Rattle.asdu.specs.declared.FtError.TheVariants.{ChecksumMismatch}
-use Rattle.checksum.specs.declared.ChecksumResult.{ChecksumResult}
-use Rattle.checksum.specs.declared.ChecksumResult.TheVariants.{Ok, Err}
+use Rattle.checksum.specs.declared.SumsDiffer.{SumsDiffer}
 
 unfoldable pub octet_sum : List ℕ → ℕ
 octet_sum [] = 0
@@ -19,6 +19,9 @@ abbrev pub checksum : List ℕ → ℕ
 checksum octets = sum_after 0 octets
 
 -- a stated sum that differs from the octets' is 8, with both
-unfoldable pub checksum_checked : List ℕ → Chs → ChecksumResult
+unfoldable pub checksum_checked : List ℕ → Chs → Result ⊤ SumsDiffer
 checksum_checked octets stated =
-    when (checksum octets == stated.value) Ok (Err ChecksumMismatch (record { value = checksum octets }) stated)
+    when (checksum octets == stated.value) (Ok tt) (Err (record { expected = record { value = checksum octets }; got = stated }))
+
+abbrev pub refusal_of : SumsDiffer → FtError
+refusal_of d = ChecksumMismatch

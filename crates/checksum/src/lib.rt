@@ -2,19 +2,24 @@
 #![tactic(auto)]
 
 ghost use Rattle.std.specs.Prelude.{◌≡◌};
-ghost use Rattle.checksum.specs.Checksum.{sum_after, checksum_checked};
+ghost use Rattle.checksum.specs.Checksum.{sum_after, checksum_checked, refusal_of};
 
 use asdu::{Chs, FtError};
 
-// What comparing a stated sum with the octets' answers: 8 comes with both.
-#[derive(Clone, Copy)]
-pub enum ChecksumResult {
-    Ok,
-    Err {
-        error: FtError,
-        expected: Chs,
-        got: Chs,
-    },
+// Two sums that differ: the octets' own, and the one that was stated.
+#[derive(Clone, Copy, PartialEq, Eq)]
+pub struct SumsDiffer {
+    pub expected: Chs,
+    pub got: Chs,
+}
+
+// It is refusal 8.
+impl From<SumsDiffer> for FtError {
+    ghost from_gives = { λ sums error. error ≡ refusal_of sums };
+
+    fn from(_: SumsDiffer) -> FtError {
+        FtError::ChecksumMismatch
+    }
 }
 
 // The sum after the octets, modulo 256, from the sum so far (document 02, A6). Whole octets begin with 0;
@@ -23,25 +28,22 @@ pub fn checksum(octets: &[u8], so_far: u8) -> Chs
     ensures { result.value ≡ sum_after so_far octets.now }
 {
     let mut sum = so_far;
-    let mut i = 0;
-    while i < octets.len() {
-        sum = std::num::wrapping_add_u8(sum, octets[i]);
-        i += 1;
+    for &octet in octets {
+        sum = sum.wrapping_add(octet);
     }
     Chs { value: sum }
 }
 
 // Whether the stated sum is that of the octets: 8, with both sums, where it is not.
-pub fn check_checksum(octets: &[u8], stated: Chs) -> ChecksumResult
+pub fn check_checksum(octets: &[u8], stated: Chs) -> Result<(), SumsDiffer>
     ensures { result ≡ checksum_checked octets.now stated }
 {
     let expected = checksum(octets, 0);
-    if expected.value == stated.value {
-        return ChecksumResult::Ok;
+    if expected != stated {
+        return Err(SumsDiffer {
+            expected,
+            got: stated,
+        });
     }
-    ChecksumResult::Err {
-        error: FtError::ChecksumMismatch,
-        expected,
-        got: stated,
-    }
+    Ok(())
 }

@@ -8,6 +8,7 @@ use native.Mathlib.Omega.{arith}
 use lib.Dec.{eqb}
 use lib.ListN.{length, get_or, length-append}
 use borrow.Author.Tests.{le-leb, eq-eqb, ne_eqb}
+use Rattle.std.specs.Prelude.{None, Ok}
 use Rattle.laws.specs.When.{when}
 use Rattle.laws.proofs.Decide.{whens}
 use Rattle.store.specs.Store.{written}
@@ -16,7 +17,6 @@ use Rattle.asdu.specs.Header.{is_mirror}
 use Rattle.asdu.specs.Entry.{entry_of, entry_octets, entry_address}
 use Rattle.asdu.specs.declared.Cause.{Cause}
 use Rattle.asdu.specs.declared.Header.{Header}
-use Rattle.asdu.specs.declared.UnknownField.TheVariants as U
 use Rattle.asdu.proofs.Octets.{thirteen}
 use Rattle.stored.specs.Stored.{entries_in, any_last, has_last, stored_from, page_stored, room_for}
 use Rattle.store.proofs.Written.{written_none, written_twice, written_long}
@@ -43,7 +43,7 @@ use Rattle.collector.specs.declared.DirectoryAnswer.TheVariants.{Running, Comple
 
 page_heard : (p : FileTransferProcedure) (h : Header) (ioa i : ℕ) (beside : List ℕ) → Sound p.sizes (page_frame ioa i) h → settled p ≡ true
     → page_address ioa i ≤ max_ioa p.sizes → values_in_range p.sizes (page_frame ioa i) beside ≡ true → serves p (other_role p.role) false ≡ true
-    → on_asdu p h U.Nothing (D.Frame (page_frame ioa i)) beside ≡ Answered
+    → on_asdu p h None (D.Frame (page_frame ioa i)) beside ≡ Ok Answered
 unfolding on_asdu admit_known is_file_type is_mirror admit_frame frame_agrees when
 page_heard p h ioa i beside sound right fits values direction =
     let below : h.common_address < max_common_address p.sizes = sound.common in
@@ -61,8 +61,8 @@ page_heard p h ioa i beside sound right fits values direction =
 
 -- an answer to a call that waits for one is a page to it
 page_answers : (c : DirectoryCall) (store : List ℕ) (h : Header) (ioa i : ℕ) (beside : List ℕ) → call_agrees c store ≡ true → c.started ≡ true → c.done ≡ false
-    → on_asdu c.procedure h U.Nothing (D.Frame (page_frame ioa i)) beside ≡ Answered
-    → collect c store h U.Nothing (D.Frame (page_frame ioa i)) beside ≡ on_page c store (page_address ioa i) beside
+    → on_asdu c.procedure h None (D.Frame (page_frame ioa i)) beside ≡ Ok Answered
+    → collect c store h None (D.Frame (page_frame ioa i)) beside ≡ on_page c store (page_address ioa i) beside
 unfolding collect when
 page_answers c store h ioa i beside agrees started running heard = simp (agrees, started, running, heard)
 
@@ -170,7 +170,7 @@ module _ (d : Directory) where
     unfolding page_stored page_address page_octets
     page_stored_lem = rw page_entries_lem (rw add-zero at (stored_sent o d.right d.octets d.first (i * 18) n 0))
 
-    heard : on_asdu c.procedure (d.headers i) U.Nothing (D.Frame (page_frame d.first i)) (page_octets o i) ≡ Answered
+    heard : on_asdu c.procedure (d.headers i) None (D.Frame (page_frame d.first i)) (page_octets o i) ≡ Ok Answered
     heard =
         page_heard c.procedure (d.headers i) d.first i (page_octets o i) (d.sound i) d.settings (d.within i h)
         (page_in_range o d.right d.octets i h c.procedure.sizes d.first) d.direction

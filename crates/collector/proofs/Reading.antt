@@ -5,8 +5,8 @@ use mathlib.Core.List.{List}
 use native.Mathlib.Nat.{add-zero, zero-add}
 use native.Mathlib.Omega.{arith}
 use lib.ListN.{length, take, drop}
+use Rattle.std.specs.Prelude.{Ok}
 use Rattle.asdu.specs.Entry.{entry_octets, entry_address}
-use Rattle.asdu.specs.declared.EntryResult.TheVariants.{Ok}
 use Rattle.asdu.proofs.Octets.{thirteen}
 use Rattle.stored.specs.Stored.{stored_entry, octets_at, address_in, entry_in}
 use Rattle.stored.proofs.StoredLaws.{entry_long}

@@ -4,6 +4,7 @@ use mathlib.Core.Path.{◌≡◌, refl}
 use mathlib.Core.Bool.{Bool, true, false}
 use mathlib.Core.List.{List}
 use lib.Dec.{leb}
+use Rattle.std.specs.Prelude.{Err, Ok}
 use Rattle.laws.specs.When.{when, unless}
 use Rattle.asdu.specs.Sizes.{sizes_right, max_ioa}
 use Rattle.asdu.specs.Elements.{scq_in_range}
@@ -14,18 +15,16 @@ use Rattle.ft.specs.Procedure.{settled, address_right, addressed}
 use Rattle.ft.specs.Admission.{serves}
 use Rattle.ft.specs.Building.{header_of, framed, built}
 use Rattle.ft.specs.declared.Asdu.{Asdu}
-use Rattle.ft.specs.declared.AsduResult.TheVariants as A
 use Rattle.collector.specs.Record.{call_agrees, call_frame, starting, start_step, started_with, started}
 use Rattle.collector.specs.declared.DirectoryCall.{DirectoryCall}
-use Rattle.collector.specs.declared.StartAnswer.TheVariants.{Send, Err}
 use Rattle.collector.proofs.Agreement.{agrees_settled}
 
 started_when : (c : DirectoryCall) (u s w : Bool) (a : Asdu)
-    → started_with c (unless u (A.Err E.FunctionNotUsed) (unless s (A.Err E.NotSelectedDirection) (unless w (A.Err E.AddressOutOfRange) (A.Ok a))))
+    → started_with c (unless u (Err E.FunctionNotUsed) (unless s (Err E.NotSelectedDirection) (unless w (Err E.AddressOutOfRange) (Ok a))))
     ≡ unless u (start_step c (Err E.FunctionNotUsed))
     (unless s (start_step c (Err E.NotSelectedDirection))
     (unless w (start_step c (Err E.AddressOutOfRange))
-    (start_step (starting c) (Send a.frame))))
+    (start_step (starting c) (Ok a.frame))))
 unfolding when
 started_when c true true true a = refl
 started_when c true true false a = refl
@@ -37,7 +36,7 @@ pub started_is : (c : DirectoryCall) (store : List ℕ) (ioa : ℕ) → call_agr
     ≡ unless (uses_function c.procedure.selection) (start_step c (Err E.FunctionNotUsed))
     (unless (serves c.procedure c.procedure.role true) (start_step c (Err E.NotSelectedDirection))
     (unless (leb ioa (max_ioa c.procedure.sizes)) (start_step c (Err E.AddressOutOfRange))
-    (start_step (starting c) (Send (call_frame ioa)))))
+    (start_step (starting c) (Ok (call_frame ioa)))))
 unfolding started built framed addressed settled scq_in_range when
 started_is c store ioa e =
     let p = c.procedure in

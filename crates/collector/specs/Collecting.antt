@@ -1,9 +1,8 @@
 -- What a call of a directory makes of a received frame, with the store after it (document 01, The directory and both Refused sections).
-use Rattle.std.specs.Prelude.{ℕ, ◌+◌, ◌*◌, Bool, true, false, List, length}
+use Rattle.std.specs.Prelude.{ℕ, ◌+◌, ◌*◌, Bool, true, false, List, length, Option, Some, None, Result, Ok, Err}
 use Rattle.laws.specs.When.{when, unless}
 use Rattle.store.specs.Store.{written}
 use Rattle.asdu.specs.declared.Header.{Header}
-use Rattle.asdu.specs.declared.UnknownField.{UnknownField}
 use Rattle.asdu.specs.declared.FtError.TheVariants as E
 use Rattle.stored.specs.Stored.{entries_in, has_last, page_stored, room_for}
 use Rattle.frame.specs.declared.Frame.{Frame}
@@ -14,30 +13,30 @@ use Rattle.ft.specs.declared.Received.TheVariants as D
 use Rattle.ft.specs.declared.Reaction.{Reaction}
 use Rattle.ft.specs.declared.Reaction.TheVariants as A
 use Rattle.collector.specs.Record.{call_agrees}
-use Rattle.collector.specs.declared.Taken.{Taken}
-use Rattle.collector.specs.declared.Taken.TheVariants as T
 use Rattle.collector.specs.declared.DirectoryCall.{DirectoryCall}
 use Rattle.collector.specs.declared.DirectoryStep.{DirectoryStep}
 use Rattle.collector.specs.declared.DirectoryAnswer.{DirectoryAnswer}
 use Rattle.collector.specs.declared.DirectoryAnswer.TheVariants.{Running, Complete, Refused, Err}
+use Rattle.asdu.specs.declared.Unspecified.{Unspecified}
+use Rattle.asdu.specs.declared.FtError.{FtError}
 
 -- ---- what is taken
 
 -- any directory page, by its address
-abbrev pub frame_taken : Frame → Taken
-frame_taken (F.FileReady ioa nof lof frq) = T.Nothing
-frame_taken (F.SectionReady ioa nof nos lof srq) = T.Nothing
-frame_taken (F.Sc ioa nof nos scq) = T.Nothing
-frame_taken (F.LastSection ioa nof nos lsq chs) = T.Nothing
-frame_taken (F.Ack ioa nof nos afq) = T.Nothing
-frame_taken (F.Segment ioa nof nos los) = T.Nothing
-frame_taken (F.Directory ioa cause) = T.Page ioa
-frame_taken (F.QueryLog ioa nof start stop) = T.Nothing
+abbrev pub frame_taken : Frame → Option ℕ
+frame_taken (F.FileReady ioa nof lof frq) = None
+frame_taken (F.SectionReady ioa nof nos lof srq) = None
+frame_taken (F.Sc ioa nof nos scq) = None
+frame_taken (F.LastSection ioa nof nos lsq chs) = None
+frame_taken (F.Ack ioa nof nos afq) = None
+frame_taken (F.Segment ioa nof nos los) = None
+frame_taken (F.Directory ioa cause) = Some ioa
+frame_taken (F.QueryLog ioa nof start stop) = None
 
 -- admission has refused what is undecodable
-abbrev pub taken : Received → Taken
+abbrev pub taken : Received → Option ℕ
 taken (D.Frame f) = frame_taken f
-taken D.Undecodable = T.Nothing
+taken D.Undecodable = None
 
 -- ---- the record
 
@@ -70,21 +69,21 @@ on_page c store ioa o =
     unless (room_for c.held (entries_in o) (length store)) (leaving store (stepped c (Err E.DirectoryFull)))
     (leaving (written store (17 * c.held) (page_stored ioa o)) (on_held c (c.held + entries_in o) o))
 
-abbrev pub on_taken : DirectoryCall → List ℕ → List ℕ → Taken → Outcome
-on_taken c store beside (T.Page ioa) = on_page c store ioa beside
-on_taken c store beside T.Nothing = leaving store (stepped c Running)
+abbrev pub on_taken : DirectoryCall → List ℕ → List ℕ → Option ℕ → Outcome
+on_taken c store beside (Some ioa) = on_page c store ioa beside
+on_taken c store beside None = leaving store (stepped c Running)
 
 -- by what admission makes of the frame: a mirror or a refusal ends the call, requests and other answers change nothing
-abbrev pub collect_admitted : DirectoryCall → List ℕ → List ℕ → Taken → Reaction → Outcome
-collect_admitted c store beside what A.Requested = leaving store (stepped c Running)
-collect_admitted c store beside what A.Answered = on_taken c store beside what
-collect_admitted c store beside what (A.Refused cause mirror) = leaving store (stepped (ended c) (Refused cause mirror))
-collect_admitted c store beside what (A.Discard why) = leaving store (stepped c Running)
-collect_admitted c store beside what A.Other = leaving store (stepped c Running)
-collect_admitted c store beside what (A.Err e) = leaving store (stepped c (Err e))
+abbrev pub collect_admitted : DirectoryCall → List ℕ → List ℕ → Option ℕ → Result Reaction FtError → Outcome
+collect_admitted c store beside what (Ok A.Requested) = leaving store (stepped c Running)
+collect_admitted c store beside what (Ok A.Answered) = on_taken c store beside what
+collect_admitted c store beside what (Ok (A.Refused cause mirror)) = leaving store (stepped (ended c) (Refused cause mirror))
+collect_admitted c store beside what (Ok (A.Discard why)) = leaving store (stepped c Running)
+collect_admitted c store beside what (Ok A.Other) = leaving store (stepped c Running)
+collect_admitted c store beside what (Err e) = leaving store (stepped c (Err e))
 
 -- one frame handed to the call, with what stands beside it: 26 first, then a call not started or done is answered with nothing, then admission; 25 last
-unfoldable pub collect : DirectoryCall → List ℕ → Header → UnknownField → Received → List ℕ → Outcome
+unfoldable pub collect : DirectoryCall → List ℕ → Header → Option Unspecified → Received → List ℕ → Outcome
 collect c store h unknown received beside =
     unless (call_agrees c store) (leaving store (stepped c (Err E.RecordMismatch)))
     (unless c.started (leaving store (stepped c Running))

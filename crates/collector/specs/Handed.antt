@@ -1,11 +1,10 @@
 -- The pages of a directory handed one after the other to a call, and what they leave in its store (document 01, The directory and The exchange).
-use Rattle.std.specs.Prelude.{ℕ, zero, suc, ◌+◌, ◌*◌, ◌≤◌, ◌<◌, ◌≡◌, true, false, List, [], ◌++◌, length, get_or}
+use Rattle.std.specs.Prelude.{ℕ, zero, suc, ◌+◌, ◌*◌, ◌≤◌, ◌<◌, ◌≡◌, true, false, List, [], ◌++◌, length, get_or, None}
 use Rattle.store.specs.Store.{written}
 use Rattle.asdu.specs.Sizes.{max_ioa, max_common_address}
 use Rattle.asdu.specs.Entry.{entry_octets, entry_address}
 use Rattle.asdu.specs.declared.AddressSizes.{AddressSizes}
 use Rattle.asdu.specs.declared.Header.{Header}
-use Rattle.asdu.specs.declared.UnknownField.TheVariants as U
 use Rattle.stored.specs.Stored.{stored_entry}
 use Rattle.frame.specs.declared.Frame.{Frame}
 use Rattle.frame.specs.Frames.{type_of, cause_of}
@@ -48,7 +47,7 @@ pub record Directory : Type 0 where
 
 -- one page is handed over
 abbrev pub hand_over : Directory → ℕ → Outcome → Outcome
-hand_over d i x = collect x.step.call x.store (d.headers i) U.Nothing (D.Frame (page_frame d.first i)) (page_octets d.entries i)
+hand_over d i x = collect x.step.call x.store (d.headers i) None (D.Frame (page_frame d.first i)) (page_octets d.entries i)
 
 -- record and store after the first n pages, with the answer to the last of these
 abbrev pub handed : Directory → ℕ → Outcome

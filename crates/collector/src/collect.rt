@@ -1,36 +1,21 @@
 // What a call makes of a received frame: it takes directory pages and ends with the last of them.
 ghost use Rattle.std.specs.Prelude.{◌≡◌};
-ghost use Rattle.collector.specs.Collecting.{frame_taken, taken, stepped, ended, on_page, on_taken, collect_admitted, collect};
+ghost use Rattle.collector.specs.Collecting.{taken, stepped, ended, on_page, on_taken, collect_admitted, collect};
 ghost use Rattle.collector.specs.declared.DirectoryAnswer.TheVariants.{Running, Err};
 
-use crate::{DirectoryAnswer, DirectoryCall, DirectoryStep, Taken};
-use asdu::{DirectoryEntry, FtError, Header, UnknownField};
+use crate::{DirectoryAnswer, DirectoryCall, DirectoryStep};
+use asdu::{DirectoryEntry, FtError};
 use frame::Frame;
-use ft::{Reaction, Received};
+use ft::{Incoming, Reaction, Received};
 
-// A directory page is taken by its address, whatever that is: the pages after the first have others.
-fn frame_taken(frame: Frame) -> Taken
-    ensures { result ≡ frame_taken frame }
-{
-    match frame {
-        Frame::FileReady { .. } => Taken::Nothing,
-        Frame::SectionReady { .. } => Taken::Nothing,
-        Frame::Sc { .. } => Taken::Nothing,
-        Frame::LastSection { .. } => Taken::Nothing,
-        Frame::Ack { .. } => Taken::Nothing,
-        Frame::Segment { .. } => Taken::Nothing,
-        Frame::Directory { ioa, .. } => Taken::Page(ioa),
-        Frame::QueryLog { .. } => Taken::Nothing,
-    }
-}
-
-// What is undecodable is refused before.
-fn taken(received: Received) -> Taken
+// A directory page is taken by its address, whatever that is: the pages after the first have others. What
+// is undecodable is refused before.
+fn taken(received: Received) -> Option<u32>
     ensures { result ≡ taken received }
 {
     match received {
-        Received::Frame(frame) => frame_taken(frame),
-        Received::Undecodable => Taken::Nothing,
+        Received::Frame(Frame::Directory { ioa, .. }) => Some(ioa),
+        _ => None,
     }
 }
 
@@ -59,36 +44,37 @@ impl DirectoryCall {
     fn ends(self, answer: DirectoryAnswer) -> DirectoryStep
         ensures { result ≡ stepped (ended self) answer }
     {
-        let mut next = self;
-        next.done = true;
-        DirectoryStep { call: next, answer }
+        DirectoryStep {
+            call: DirectoryCall { done: true, ..self },
+            answer,
+        }
     }
 
     // A page's entries are written after those held: 25, and nothing of it, where the store cannot take
     // them all. The flag in any of them completes the call.
+    #[tactic(auto, using(laws::proofs::Decide::decide, stored::proofs::StoredLaws::room_is), unfolding(crate::specs::Collecting::on_page, crate::specs::Collecting::on_held, stored::specs::Stored::with_page, stored::specs::Stored::entries_in))]
     fn on_page(self, store: &mut [u8], ioa: u32, entries: &[u8]) -> DirectoryStep
         ensures { (result ≡ (on_page self store.old ioa entries.now).step) × (store.new ≡ (on_page self store.old ioa entries.now).store) }
     {
-        let held = self.held;
-        if !stored::write_page(store, held, ioa, entries) {
+        if !stored::write_page(store, self.held, ioa, entries) {
             return self.refuses(FtError::DirectoryFull);
         }
-        let all = held + entries.len() / DirectoryEntry::LEN;
-        let mut next = self;
-        next.held = all;
+        let held = self.held + entries.len() / DirectoryEntry::LEN;
+        let next = DirectoryCall { held, ..self };
         if stored::has_last(entries) {
-            return next.ends(DirectoryAnswer::Complete { entries: all });
+            next.ends(DirectoryAnswer::Complete { entries: held })
+        } else {
+            next.runs()
         }
-        next.runs()
     }
 
     // An answer of the other station: a page, or nothing to this call.
-    fn on_taken(self, store: &mut [u8], beside: &[u8], what: Taken) -> DirectoryStep
+    fn on_taken(self, store: &mut [u8], beside: &[u8], what: Option<u32>) -> DirectoryStep
         ensures { (result ≡ (on_taken self store.old beside.now what).step) × (store.new ≡ (on_taken self store.old beside.now what).store) }
     {
         match what {
-            Taken::Page(ioa) => return self.on_page(store, ioa, beside),
-            Taken::Nothing => return self.runs(),
+            Some(ioa) => self.on_page(store, ioa, beside),
+            None => self.runs(),
         }
     }
 
@@ -97,20 +83,18 @@ impl DirectoryCall {
         self,
         store: &mut [u8],
         beside: &[u8],
-        what: Taken,
-        reaction: Reaction,
+        what: Option<u32>,
+        reaction: Result<Reaction, FtError>,
     ) -> DirectoryStep
         ensures { (result ≡ (collect_admitted self store.old beside.now what reaction).step) × (store.new ≡ (collect_admitted self store.old beside.now what reaction).store) }
     {
         match reaction {
-            Reaction::Requested => return self.runs(),
-            Reaction::Answered => return self.on_taken(store, beside, what),
-            Reaction::Refused { cause, mirror } => {
-                return self.ends(DirectoryAnswer::Refused { cause, mirror });
+            Ok(Reaction::Answered) => self.on_taken(store, beside, what),
+            Ok(Reaction::Refused { cause, mirror }) => {
+                self.ends(DirectoryAnswer::Refused { cause, mirror })
             }
-            Reaction::Discard(_) => return self.runs(),
-            Reaction::Other => return self.runs(),
-            Reaction::Err(error) => return self.refuses(error),
+            Ok(Reaction::Requested | Reaction::Discard(_) | Reaction::Other) => self.runs(),
+            Err(error) => self.refuses(error),
         }
     }
 
@@ -118,27 +102,17 @@ impl DirectoryCall {
     // not started or is done is answered with nothing; then comes admission, with no match against the
     // frame sent, since each page has another address; 25 is tested last. A refusal leaves record and
     // store as they are.
-    pub fn on_asdu(
-        self,
-        store: &mut [u8],
-        header: Header,
-        unknown: UnknownField,
-        received: Received,
-        beside: &[u8],
-    ) -> DirectoryStep
-        ensures { (result ≡ (collect self store.old header unknown received beside.now).step) × (store.new ≡ (collect self store.old header unknown received beside.now).store) }
+    #[tactic(auto, using(laws::proofs::Decide::decide), unfolding(crate::specs::Collecting::collect))]
+    pub fn on_asdu(self, store: &mut [u8], asdu: Incoming, beside: &[u8]) -> DirectoryStep
+        ensures { (result ≡ (collect self store.old asdu.header asdu.unknown asdu.received beside.now).step) × (store.new ≡ (collect self store.old asdu.header asdu.unknown asdu.received beside.now).store) }
     {
-        let procedure = self.procedure;
         if !self.agrees(store) {
             return self.refuses(FtError::RecordMismatch);
         }
-        if !self.started {
+        if !self.started || self.done {
             return self.runs();
         }
-        if self.done {
-            return self.runs();
-        }
-        let reaction = procedure.on_asdu(header, unknown, received, beside);
-        self.on_admitted(store, beside, taken(received), reaction)
+        let reaction = self.procedure.on_asdu(asdu, beside);
+        self.on_admitted(store, beside, taken(asdu.received), reaction)
     }
 }

@@ -11,7 +11,7 @@ use frame::Frame;
 use ft::FileTransferProcedure;
 
 // The record of one call.
-#[derive(Clone, Copy)]
+#[derive(Clone, Copy, PartialEq, Eq)]
 pub struct DirectoryCall {
     pub procedure: FileTransferProcedure,
     // The call was sent: before that no frame is taken.
@@ -21,27 +21,15 @@ pub struct DirectoryCall {
     pub done: bool,
 }
 
-#[derive(Clone, Copy)]
-pub enum CallResult {
-    Ok(DirectoryCall),
-    Err(FtError),
-}
-
-// The frame that a start sends, or why it sends none.
-#[derive(Clone, Copy)]
-pub enum StartAnswer {
-    Send(Frame),
-    Err(FtError),
-}
-
-#[derive(Clone, Copy)]
+#[derive(Clone, Copy, PartialEq, Eq)]
 pub struct DirectoryStart {
     pub call: DirectoryCall,
-    pub answer: StartAnswer,
+    pub answer: Result<Frame, FtError>,
 }
 
-// Where a call stands after a frame. It sends nothing but the mirror of a refusal.
-#[derive(Clone, Copy)]
+// Where a call stands after a frame. It sends nothing but the mirror of a refusal. A refusal by number is a
+// case of it, as it is of the answers of the two other machines.
+#[derive(Clone, Copy, PartialEq, Eq)]
 pub enum DirectoryAnswer {
     Running,
     // The store's first so many entries are the directory.
@@ -50,15 +38,8 @@ pub enum DirectoryAnswer {
     Err(FtError),
 }
 
-#[derive(Clone, Copy)]
+#[derive(Clone, Copy, PartialEq, Eq)]
 pub struct DirectoryStep {
     pub call: DirectoryCall,
     pub answer: DirectoryAnswer,
-}
-
-// What a call takes of a received frame: a directory page by its address, and nothing else.
-#[derive(Clone, Copy)]
-enum Taken {
-    Page(u32),
-    Nothing,
 }

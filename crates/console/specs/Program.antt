@@ -1,6 +1,5 @@
 -- The transfer program (document 01, A transfer script): a frame budget of 65,535, the conventional widths, common address 1, the Provider controlled.
-use Rattle.std.specs.Prelude.{ℕ, List}
-use Rattle.std.proofs.Math.Option.{Option, none, some}
+use Rattle.std.specs.Prelude.{ℕ, List, Option, Some, None}
 use Rattle.asdu.specs.declared.Nof.{Nof}
 use Rattle.asdu.specs.declared.FtError.TheVariants.{ScriptMisshapen}
 use Rattle.ft.specs.Procedure.{conventional}
@@ -19,5 +18,5 @@ transferred s file damage store = two_party s file damage store 65535
 
 -- how the script that a text is ends, with this store; a text that is none is 11
 abbrev pub played : List ℕ → Option Script → Ran
-played store none = refused store ScriptMisshapen
-played store (some s) = transferred (settings_with s.object (record { value = s.nof })) s.file s.damage store
+played store None = refused store ScriptMisshapen
+played store (Some s) = transferred (settings_with s.object (record { value = s.nof })) s.file s.damage store

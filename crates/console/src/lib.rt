@@ -2,159 +2,127 @@
 // output. What is read, run and printed is proved in `script`, `twoparty` and `run`; here nothing is decided.
 #![tactic(auto)]
 
-ghost use Rattle.std.specs.Prelude.{◌≡◌, take};
+ghost use Rattle.std.specs.Prelude.{◌≡◌};
 ghost use Rattle.script.specs.Reader.{script_of};
 ghost use Rattle.console.specs.Program.{settings_with, transferred, played};
 
-use asdu::{AddressSizes, FtError};
-use exchange::Sender;
-use frame::Frame;
+use asdu::{AddressSizes, FtError, Nof};
 use ft::Role;
-use run::RunResult;
-use script::{Outline, ScriptResult, read};
-use twoparty::{NextFrame, Settings, TwoParty, TwoPartyResult};
-
-// Standard output.
-const STDOUT: i32 = 1;
+use run::Ending;
+use script::read;
+use std::fmt;
+use twoparty::{NextFrame, Settings, TwoParty};
 
 // More frames than any script takes.
 const BUDGET: usize = 65535;
 
-fn text(words: &[u8]) {
-    io::write_all(STDOUT, words);
+// How a script ended, and whether all that is to be printed of it could be.
+#[derive(Drop)]
+pub struct Played {
+    pub ended: Result<Ending, FtError>,
+    pub printed: fmt::Result,
 }
 
-fn word_and_number(word: &[u8], n: u64) {
-    text(word);
-    io::print_decimal(STDOUT, n);
-    text(b"\n");
+// What a script gives a run.
+#[derive(Clone, Copy)]
+struct Transfer<'a> {
+    settings: Settings,
+    file: &'a [u8],
+    damage: &'a [u8],
 }
 
-// The first octets of a buffer.
-fn front(octets: &[u8], count: usize) -> &[u8]
-    ensures { result.now ≡ take count octets.now }
+fn settings(ioa: u32, nof: Nof) -> Settings
+    ensures { result ≡ settings_with ioa nof }
 {
-    if count <= octets.len() {
-        return &octets[0..count];
-    }
-    octets
-}
-
-fn refused(error: FtError) {
-    word_and_number(b"refused ", error.number() as u64);
-}
-
-fn settings(script: Outline) -> Settings
-    ensures { result ≡ settings_with script.ioa script.nof }
-{
-    let nof = script.nof;
     Settings {
         sizes: AddressSizes::CONVENTIONAL,
         common_address: 1,
-        ioa: script.ioa,
+        ioa,
         nof,
         role: Role::Controlled,
     }
 }
 
-fn print_line(out: &[u8; 32], count: usize) {
-    text(front(out, count));
+fn print_refused<W: fmt::Write>(out: &mut W, error: FtError) -> fmt::Result {
+    let number = error.number();
+    writeln!(out, "refused {number}")
 }
 
-fn print_frame(sender: Sender, frame: Frame) {
-    let mut out = [0u8; 32];
-    let count = lines::line(sender, frame, &mut out);
-    print_line(&out, count);
-}
-
-fn print_passing(passing: NextFrame) {
-    match passing {
-        NextFrame::Nothing => {}
-        NextFrame::Frame { sender, frame } => print_frame(sender, frame),
-        NextFrame::Err(error) => refused(error),
+fn print_frame<W: fmt::Write>(out: &mut W, passing: NextFrame) -> fmt::Result {
+    let mut line = [0; 32];
+    let count = lines::line(passing.sender, passing.frame, &mut line);
+    match str::from_utf8(&line[..count]) {
+        Ok(text) => out.write_str(text),
+        Err(_) => Err(fmt::Error),
     }
 }
 
-// One frame passes. No step of a transfer that was made is refused.
-fn step(party: TwoParty, file: &[u8], damage: &[u8], store: &mut [u8]) -> TwoParty {
-    match party.step(file, damage, store) {
-        TwoPartyResult::Ok(next) => return next,
-        TwoPartyResult::Err(_) => return party,
+impl Transfer<'_> {
+    // The run says how it ends and after how many frames.
+    fn run(&self, store: &mut [u8]) -> Result<Ending, FtError>
+        ensures { (result ≡ (transferred self.now.settings self.now.file.now self.now.damage.now store.old).result)
+            × (store.new ≡ (transferred self.now.settings self.now.file.now self.now.damage.now store.old).store) }
+    {
+        run::run(self.settings, self.file, self.damage, store, BUDGET)
     }
-}
 
-// The frames of a run, one by one.
-fn print_frames(party: TwoParty, file: &[u8], damage: &[u8], store: &mut [u8], frames: usize) {
-    let mut now = party;
-    let mut i = 0;
-    while i < frames {
-        print_passing(now.next_frame(file));
-        now = step(now, file, damage, store);
-        i += 1;
-    }
-}
-
-fn print_run(settings: Settings, file: &[u8], damage: &[u8], frames: usize) {
-    let mut store = [0u8; 8192];
-    match TwoParty::new(settings, file, damage, &store) {
-        TwoPartyResult::Ok(party) => print_frames(party, file, damage, &mut store, frames),
-        TwoPartyResult::Err(error) => refused(error),
-    }
-}
-
-// The frames of the run, then how it ended.
-fn print_ending(settings: Settings, file: &[u8], damage: &[u8], ending: RunResult) {
-    match ending {
-        RunResult::Whole { length, frames } => {
-            print_run(settings, file, damage, frames);
-            word_and_number(b"whole ", length as u64);
+    // The frames of a run, one by one. No step of a transfer that was made is refused.
+    fn print_frames<W: fmt::Write>(&self, out: &mut W, frames: usize) -> fmt::Result {
+        let mut store = [0; 8192];
+        let mut party = match TwoParty::new(self.settings, self.file, self.damage, &store) {
+            Ok(party) => party,
+            Err(error) => return print_refused(out, error),
+        };
+        for _ in 0..frames {
+            match party.next_frame(self.file) {
+                Ok(Some(passing)) => print_frame(out, passing)?,
+                Ok(None) => {}
+                Err(error) => print_refused(out, error)?,
+            }
+            if let Ok(next) = party.step(self.file, self.damage, &mut store) {
+                party = next;
+            }
         }
-        RunResult::Spent { frames } => {
-            print_run(settings, file, damage, frames);
-            text(b"spent\n");
-        }
-        RunResult::Err(error) => refused(error),
+        Ok(())
     }
-}
 
-// The run says how it ends and after how many frames.
-fn transfer(settings: Settings, file: &[u8], damage: &[u8], store: &mut [u8]) -> RunResult
-    ensures { (result ≡ (transferred settings file.now damage.now store.old).result)
-        × (store.new ≡ (transferred settings file.now damage.now store.old).store) }
-{
-    let ending = run::run(settings, file, damage, store, BUDGET);
-    print_ending(settings, file, damage, ending);
-    ending
-}
-
-// The script's octets stand in front of the buffers.
-fn play_script(
-    script: Outline,
-    file: &[u8; 8192],
-    damage: &[u8; 255],
-    store: &mut [u8],
-) -> RunResult
-    ensures { (result ≡ (transferred (settings_with script.ioa script.nof) (take script.file_len file.now) (take script.damage_len damage.now) store.old).result)
-        × (store.new ≡ (transferred (settings_with script.ioa script.nof) (take script.file_len file.now) (take script.damage_len damage.now) store.old).store) }
-{
-    let octets = front(file, script.file_len);
-    let sections = front(damage, script.damage_len);
-    transfer(settings(script), octets, sections, store)
+    // The frames of the run, then how it ended.
+    fn print<W: fmt::Write>(&self, out: &mut W, ended: Result<Ending, FtError>) -> fmt::Result {
+        match ended {
+            Ok(Ending::Whole { length, frames }) => {
+                self.print_frames(out, frames)?;
+                writeln!(out, "whole {length}")
+            }
+            Ok(Ending::Spent { frames }) => {
+                self.print_frames(out, frames)?;
+                writeln!(out, "spent")
+            }
+            Err(error) => print_refused(out, error),
+        }
+    }
 }
 
 // Runs the script that the text is, into the lent store: prints one line for each frame that passes,
-// then how it ended, or `refused 11` alone. It answers how it ended.
-pub fn play(text: &[u8], store: &mut [u8]) -> RunResult
-    ensures { (result ≡ (played store.old (script_of text.now)).result)
+// then how it ended, or `refused 11` alone. It answers how it ended. The octets read stand in arrays of its own:
+// fixed memory is a rule of the project.
+pub fn play<W: fmt::Write>(out: &mut W, text: &[u8], store: &mut [u8]) -> Played
+    ensures { (result.ended ≡ (played store.old (script_of text.now)).result)
         × (store.new ≡ (played store.old (script_of text.now)).store) }
 {
-    let mut file = [0u8; 8192];
-    let mut damage = [0u8; 255];
-    match read::read(text, &mut file, &mut damage) {
-        ScriptResult::Ok(script) => return play_script(script, &file, &damage, store),
-        ScriptResult::Err(error) => {
-            refused(error);
-            return RunResult::Err(error);
-        }
-    }
+    let mut file = [0; 8192];
+    let mut damage = [0; 255];
+    let Some(script) = read::script(text, &mut file, &mut damage) else {
+        return Played {
+            ended: Err(FtError::ScriptMisshapen),
+            printed: print_refused(out, FtError::ScriptMisshapen),
+        };
+    };
+    let transfer = Transfer {
+        settings: settings(script.ioa, script.nof),
+        file: script.file,
+        damage: script.damage,
+    };
+    let ended = transfer.run(store);
+    let printed = transfer.print(out, ended);
+    Played { ended, printed }
 }

@@ -1,2 +1,1 @@
 mod Short
-mod Raised

@@ -1,4 +1,5 @@
 -- What stands beside a frame of a Provider's, on every record: no more than 240 octets.
+use Rattle.std.specs.Prelude.{Err, Result}
 use Rattle.std.proofs.Common.{ℕ, ◌≤◌, eqb, ltb, List, length, le_trans, arith, length-take}
 use native.Mathlib.Nat.{min-le_left}
 use Rattle.laws.proofs.Choices.{either}
@@ -9,18 +10,17 @@ use Rattle.provide.specs.Replies.{octets_of, limit_of, segment_count, only_part,
 use Rattle.provide.specs.declared.Provider.{Provider}
 use Rattle.requests.specs.declared.Reply.{Reply}
 use Rattle.requests.specs.declared.Reply.TheVariants.{Nothing, FileReady, SectionReady, Section, FileClose}
-use Rattle.provide.specs.declared.PartResult.{PartResult}
-use Rattle.provide.specs.declared.PartResult.TheVariants as Q
 use Rattle.provide.proofs.Building.{limit_most}
 use Rattle.sections.proofs.Cuts.{segment_most}
+use Rattle.asdu.specs.declared.FtError.{FtError}
 
 module _ (p : Provider) (file : List ℕ) where
-  abbrev Short : PartResult → Type 0
+  abbrev Short : Result Part FtError → Type 0
   Short q = length (payload_of file q) ≤ 240
 
   only_short : (i : ℕ) → Short (only_part i)
   unfolding only_part part_octets
-  only_short i = either Short (eqb i 0) _ (Q.Err _) (omega arith) (omega arith)
+  only_short i = either Short (eqb i 0) _ (Err _) (omega arith) (omega arith)
 
   -- no part is longer than its length
   part_most : (q : Part) → length (part_octets q file) ≤ q.length
@@ -39,4 +39,4 @@ module _ (p : Provider) (file : List ℕ) where
 
   pub payload_short : (r : Reply) (i : ℕ) → Short (reply_payload p file r i)
   unfolding reply_payload
-  payload_short r i = either Short (file_agrees p file) _ (Q.Err _) (part_at_short r i) (omega arith)
+  payload_short r i = either Short (file_agrees p file) _ (Err _) (part_at_short r i) (omega arith)

@@ -4,28 +4,38 @@
 
 mod noise; // what a damaged sending is hit at
 
-ghost use Rattle.std.specs.Prelude.{◌≡◌, ◌≤◌, length};
+ghost use Rattle.std.specs.Prelude.{◌≡◌, ◌≤◌, length, None};
 ghost use Rattle.laws.specs.When.{when};
-ghost use Rattle.asdu.specs.declared.UnknownField.TheVariants as U;
 ghost use Rattle.provide.specs.Replies.{reply_payload, payload_of};
 ghost use Rattle.receive.specs.Answers.{receive};
 ghost use Rattle.exchange.specs.Damaging.{raised};
-ghost use Rattle.delivery.specs.Handed.{provider_handed, receiver_handed};
+ghost use Rattle.ft.specs.declared.Received.TheVariants as D;
+ghost use Rattle.delivery.specs.Handed.{header_by, provider_handed, receiver_handed};
 
-use asdu::{Header, UnknownField};
 use frame::Frame;
-use ft::{Received, build};
-use provide::{PartResult, Provider, ProviderStep};
+use ft::{FileTransferProcedure, Incoming, Received, build};
+use provide::{Provider, ProviderStep};
 use receive::{Receiver, ReceiverStep};
 use requests::Reply;
+
+// A station's own frame as the other one has decoded it.
+fn sent_by(station: FileTransferProcedure, frame: Frame) -> Incoming
+    ensures { result ≡ record { header = header_by station frame; unknown = None; received = D.Frame frame } }
+{
+    Incoming {
+        header: build::header_of(station.ca, station.org, frame),
+        unknown: None,
+        received: Received::Frame(frame),
+    }
+}
 
 // What stands beside the frame at an index of the Provider's reply.
 fn payload_of(provider: Provider, file: &[u8], reply: Reply, index: usize) -> &[u8]
     ensures { result.now ≡ payload_of file.now (reply_payload provider file.now reply index) }
 {
     match provider.reply_payload(file, reply, index) {
-        PartResult::Ok(part) => part.octets(file),
-        PartResult::Err(_) => &file[0..0],
+        Ok(part) => part.octets(file),
+        Err(_) => &[],
     }
 }
 
@@ -34,22 +44,23 @@ fn payload_of(provider: Provider, file: &[u8], reply: Reply, index: usize) -> &[
 fn hand_over(
     receiver: Receiver,
     store: &mut [u8],
-    header: Header,
-    received: Received,
+    asdu: Incoming,
     payload: &[u8],
     hit: bool,
 ) -> ReceiverStep
     requires { length payload.now ≤ 240 }
-    ensures { (result ≡ (receive receiver store.old header U.Nothing received (when hit (raised payload.now) payload.now)).step)
-        × (store.new ≡ (receive receiver store.old header U.Nothing received (when hit (raised payload.now) payload.now)).store) }
+    ensures { (result ≡ (receive receiver store.old asdu.header asdu.unknown asdu.received (when hit (raised payload.now) payload.now)).step)
+        × (store.new ≡ (receive receiver store.old asdu.header asdu.unknown asdu.received (when hit (raised payload.now) payload.now)).store) }
 {
     let mut copy = [0u8; 240];
     let beside = noise::arriving(payload, hit, &mut copy);
-    receiver.on_asdu(store, header, UnknownField::Nothing, received, beside)
+    receiver.on_asdu(store, asdu, beside)
 }
 
 // The frame at index `next` of the Provider's reply is handed to the Receiver, under the Provider's own
-// header and with what arrives beside it.
+// header and with what arrives beside it. Reply, index and damage are handed over apart, as the queue of
+// twoparty/specs/Party.antt has them.
+#[tactic(auto, using(crate::proofs::Short::payload_short), unfolding(crate::specs::Handed::arriving))]
 pub fn hand_receiver(
     provider: Provider,
     receiver: Receiver,
@@ -64,16 +75,8 @@ pub fn hand_receiver(
         × (store.new ≡ (receiver_handed provider receiver file.now store.old reply next damaged frame).store) }
 {
     let payload = payload_of(provider, file, reply, next);
-    let header = build::header_of(provider.procedure.ca, provider.procedure.org, frame);
-    let hit = noise::is_hit(damaged, next);
-    hand_over(
-        receiver,
-        store,
-        header,
-        Received::Frame(frame),
-        payload,
-        hit,
-    )
+    let asdu = sent_by(provider.procedure, frame);
+    hand_over(receiver, store, asdu, payload, noise::is_hit(damaged, next))
 }
 
 // The Provider is handed the Receiver's frame, the one whose answer its record awaits, under the
@@ -81,8 +84,6 @@ pub fn hand_receiver(
 pub fn hand_provider(provider: Provider, receiver: Receiver, file: &[u8]) -> ProviderStep
     ensures { result ≡ provider_handed provider receiver file.now }
 {
-    let frame = receiver.awaited();
-    let header = build::header_of(receiver.procedure.ca, receiver.procedure.org, frame);
-    let received = Received::Frame(frame);
-    provider.on_asdu(file, header, UnknownField::Nothing, received, &[])
+    let asdu = sent_by(receiver.procedure, receiver.awaited());
+    provider.on_asdu(file, asdu, &[])
 }

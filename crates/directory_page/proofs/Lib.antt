@@ -1,6 +1,6 @@
 pub mod Places
-pub mod Fields
 pub mod Lines
+pub mod Digits
 pub mod Entries
 pub mod Pages
 pub mod Answers

@@ -1,18 +1,20 @@
 -- A page line by line: how long it is, one line more, and the page of joined entries.
-use Prim.Native.Nat.{ℕ, zero, suc, ◌+◌, ◌*◌, ◌/◌, ◌%◌, ◌≤◌}
+use Prim.Native.Nat.{ℕ, zero, suc, ◌+◌, ◌*◌, ◌/◌, ◌%◌, ◌≤◌, ◌<◌}
+use mathlib.Core.Bool.{true}
 use mathlib.Core.Path.{◌≡◌, refl, ◌∙◌}
 use mathlib.Core.List.{List, ◌++◌, map, append_assoc, append-nil}
 use native.Mathlib.Nat.{suc-add, zero-add}
 use native.Mathlib.Omega.{arith}
 use borrow.Rule.Slice.PartMut.{put_mid}
 use lib.ListN.{length, take, drop, length-append, length-drop}
-use lib.Seq.{drop-drop, drop_at, take-append-le, drop-append-le}
+use lib.Seq.{drop-drop, take_at, drop_at, take-append-le, drop-append-le}
 use Rattle.lists.specs.Parts.{parts, joined}
 use Rattle.store.specs.Store.{written}
-use Rattle.store.proofs.Written.{written_long, written_lent, Wrote, wrote, then_wrote}
+use Rattle.store.proofs.Written.{written_lent, written_twice}
 use Rattle.script.specs.Answers.{over}
-use Rattle.directory_page.specs.Page.{stored_entries, entry_line, page_text}
+use Rattle.directory_page.specs.Page.{stored_entries, is_clear, all_right, entry_line, page_text}
 use Rattle.directory_page.proofs.Lines.{line_long}
+use Rattle.directory_page.proofs.Entries.{clear_at}
 
 -- the lines of the first n entries
 abbrev pub lines_of : ℕ → List ℕ → List ℕ
@@ -61,17 +63,40 @@ page_joined o q whole =
 
 -- ---- lines written over the front of a page
 
--- one line more
-pub line_next : (page₀ page o : List ℕ) (i : ℕ) (line : List ℕ) → line ≡ entry_line (take 17 (drop (17 * i) o)) → Wrote page₀ 0 (lines_of i o) page
-    → i + 1 ≤ length o / 17 → 53 * (i + 1) ≤ length page₀ → length page ≡ length page₀
-    → (i + 1 ≤ length o / 17) × (length (put_mid (53 * i) 53 page line) ≡ length page₀) × Wrote page₀ 0 (lines_of (i + 1) o) (put_mid (53 * i) 53 page line)
-line_next page₀ page o i line e f more room same =
-    let long : length line ≡ 53 = rw e (entry_line_long (take 17 (drop (17 * i) o))) in
-    let next : Wrote page (53 * i) line (put_mid (53 * i) 53 page line) = wrote (written_lent page (53 * i) 53 line long) in
-    let kept : length (put_mid (53 * i) 53 page line) ≡ length page = rw next.text (written_long page (53 * i) line (omega arith)) in
-    let lines = lines_long i o in
-    (more, kept ∙ same, rw (lines_next i o, ← e) (then_wrote f next (omega arith) (omega arith)))
-
-pub front_wrote : {xs ys p : List ℕ} → Wrote xs 0 p ys → ys ≡ over p xs
+over_written : (p was : List ℕ) → over p was ≡ written was 0 p
 unfolding written
-front_wrote {xs} {ys} {p} f = f.text ∙ rw zero-add
+over_written p was = rw zero-add
+
+-- one line more, where the entries that are left are told
+module _ (o e rest : List ℕ) (i : ℕ) (left : drop (17 * i) o ≡ e ++ rest) (long : length e ≡ 17) where
+  entry_is : take 17 (drop (17 * i) o) ≡ e
+  entry_is = rw (left) (take_at e rest 17 long)
+
+  pub left_whole : 17 * (i + 1) ≤ length o
+  left_whole = let n : length (drop (17 * i) o) ≡ 17 + length rest = rw (left, length-append, long) in omega (arith, rw length-drop at n)
+
+  pub left_next : rest ≡ drop (17 * (i + 1)) o
+  left_next =
+      let place : 17 * (i + 1) ≡ 17 * i + 17 = omega arith in
+      rw (place, ← (drop-drop 17 (17 * i) o), left, drop_at e rest 17 long)
+
+  pub left_clear : all_right o ≡ true → is_clear e ≡ true
+  left_clear right = rw entry_is at (clear_at o i (omega (arith, left_whole)) right)
+
+  pub line_next : (was page line : List ℕ) (n : ℕ) → page ≡ over (lines_of i o) was → line ≡ entry_line e → n ≡ 53 → 53 * (i + 1) ≤ length was
+      → put_mid (53 * i) n page line ≡ over (lines_of (i + 1) o) was
+  line_next was page line n text entry size room =
+      let before : 0 + length (lines_of i o) ≡ 53 * i = rw (lines_long i o) (omega arith) in
+      let own : length line ≡ n = rw (entry, size) (entry_line_long e) in
+      let all : lines_of (i + 1) o ≡ lines_of i o ++ line = rw (lines_next i o, entry_is, entry) in
+      let same : page ≡ written was 0 (lines_of i o) = text ∙ over_written (lines_of i o) was in
+      rw (written_lent page (53 * i) n line own, all, over_written (lines_of i o ++ line) was, same, ← before)
+      (written_twice was 0 (lines_of i o) line (omega arith))
+
+-- none is left
+pub lines_end : (o : List ℕ) (i : ℕ) → 17 * i ≤ length o → length (drop (17 * i) o) < 17 → lines_of i o ≡ page_text o
+unfolding page_text stored_entries
+lines_end o i whole none = let n : length o / 17 ≡ i = omega (arith, rw length-drop at none) in rw n
+
+-- for the proof of the function that writes them
+pub ruleset lines = (left_whole, left_next, left_clear, line_next, lines_end)

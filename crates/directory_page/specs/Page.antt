@@ -1,5 +1,5 @@
 -- A directory page to print (document 02, A3): which entries can be printed, their lines joined, and what writing a page answers and leaves in the buffer.
-use Rattle.std.specs.Prelude.{ℕ, ◌/◌, ◌%◌, Bool, true, List, [], ◌∷◌, map, eqb, leb, length, drop}
+use Rattle.std.specs.Prelude.{ℕ, ◌/◌, ◌%◌, Bool, true, List, [], ◌∷◌, map, eqb, leb, length, drop, Result, Ok, Err}
 use Rattle.laws.specs.When.{when, unless, ◌and◌}
 use Rattle.lists.specs.Parts.{parts, joined}
 use Rattle.asdu.specs.Entry.{entry_of, reserved_clear}
@@ -8,8 +8,7 @@ use Rattle.asdu.specs.declared.FtError.TheVariants.{ValueOutOfRange, NotPrintabl
 use Rattle.script.specs.Answers.{over}
 use Rattle.stored.specs.Stored.{address_in}
 use Rattle.directory_page.specs.Line.{line_text}
-use Rattle.directory_page.specs.declared.PrintResult.{PrintResult}
-use Rattle.directory_page.specs.declared.PrintResult.TheVariants.{Ok, Err}
+use Rattle.asdu.specs.declared.FtError.{FtError}
 
 -- ---- one entry, as the directory call's store has it: 17 octets, the object address in 4 and the packed entry in 13
 
@@ -63,7 +62,7 @@ page_fits o len = leb (length (page_text o)) len
 -- ---- writing a page
 
 -- over all entries 4 is tested first, then 27, then 28; where nothing is refused, how many octets are written
-unfoldable pub print_answer : List ℕ → ℕ → PrintResult
+unfoldable pub print_answer : List ℕ → ℕ → Result ℕ FtError
 print_answer o len =
     unless (all_right o) (Err ValueOutOfRange)
     (unless (all_printable o) (Err NotPrintable) (unless (page_fits o len) (Err PageTooShort) (Ok (length (page_text o)))))

@@ -1,13 +1,14 @@
 -- Exactly the texts of whole entries are read, and each is read as its entries; how long a text is at most, and that its page has room.
+use Rattle.std.specs.Prelude.{Option, Some, None}
 use Prim.Native.Nat.{ℕ, zero, suc, ◌+◌, ◌*◌, ◌%◌, ◌≤◌}
 use mathlib.Core.Bool.{true, false}
 use mathlib.Core.Path.{◌≡◌, refl, sym, ap, ◌∙◌}
-use mathlib.Core.Option.{Option, none, some, none-ne-some}
 use mathlib.Core.List.{List, [], ◌∷◌, ◌++◌}
 use native.Mathlib.Omega.{arith}
 use lib.Dec.{eqb}
 use lib.ListN.{length, length-append}
 use borrow.Author.Tests.{eqb-true, eq-eqb, le-leb}
+use Rattle.std.proofs.lemmas.Option.{none-some}
 use Rattle.laws.proofs.Decide.{whens}
 use Rattle.laws.proofs.Choices as C
 use Rattle.script.specs.Decimal.{decimal}
@@ -34,14 +35,14 @@ octet_read k x t h =
     rw (read_decimal 255 (suc x) x (omega arith) h (behind k ∷ t) ∙ more_stop 255 x (behind k ∷ t) h (no_digit k t))
     (simp (whens, eq-eqb (behind k) (behind k) refl))
 
-octets_read : (o : List ℕ) (n k : ℕ) → (k + length o) % 17 ≡ 0 → length o ≤ n → Octets o → octets_from n k (text_from k o) ≡ some o
+octets_read : (o : List ℕ) (n k : ℕ) → (k + length o) % 17 ≡ 0 → length o ≤ n → Octets o → octets_from n k (text_from k o) ≡ Some o
 octets_read [] n k w l h = let e : k % 17 ≡ 0 = omega arith in octets_end n k ∙ simp (whens, eq-eqb _ _ e)
 octets_read (x ∷ xs) zero k w l h = absurd (omega arith)
 octets_read (x ∷ xs) (suc n) k w l h =
     octets_on n k (text_from k (x ∷ xs)) x (text_from (suc k) xs) (sym (octet_read k x (text_from (suc k) xs) h.0))
     ∙ ap (in_front_of (x ∷ [])) (octets_read xs n (suc k) (omega arith) (omega arith) h.1)
 
-pub entries_read : (o : List ℕ) → Entries o → entries_of (entries_text o) ≡ some o
+pub entries_read : (o : List ℕ) → Entries o → entries_of (entries_text o) ≡ Some o
 unfolding entries_of entries_text
 entries_read o e = octets_read o 17000 0 (omega (arith, e.whole)) e.few e.octets
 
@@ -54,16 +55,16 @@ record Listed (n k : ℕ) (t o : List ℕ) : Type 0 where
   octets : Octets o
   text : t ≡ text_from k o
 
-none_listed : (n k : ℕ) (t o : List ℕ) → none_from k t ≡ some o → Listed n k t o
+none_listed : (n k : ℕ) (t o : List ℕ) → none_from k t ≡ Some o → Listed n k t o
 none_listed n k [] o e =
     either (eqb (k % 17) 0)
     (λ b.
     let w : k % 17 ≡ 0 = eqb-true _ _ b in
-    let q : some [] ≡ some o = simp (whens, b) at e in
+    let q : Some [] ≡ Some o = simp (whens, b) at e in
     let p : [] ≡ o = cc in
     rw (← p) (record { whole = omega arith; few = omega arith; octets = tt; text = refl }))
-    (λ b. absurd (none-ne-some o (simp (whens, b) at e)))
-none_listed n k (c ∷ t) o e = absurd (none-ne-some o e)
+    (λ b. absurd (none-some o (simp (whens, b) at e)))
+none_listed n k (c ∷ t) o e = absurd (none-some o e)
 
 one_listed : (n k x : ℕ) (t rest xs : List ℕ) → Stands k t x rest → Listed n (suc k) rest xs → Listed (suc n) k t (x ∷ xs)
 one_listed n k x t rest xs s l =
@@ -75,18 +76,18 @@ record Read (m : Found ℕ) (next : List ℕ → Option (List ℕ)) (o : List �
   rest : List ℕ
   others : List ℕ
   was : m ≡ found first rest
-  then : next rest ≡ some others
+  then : next rest ≡ Some others
   all : first ∷ others ≡ o
 
-first_read : (m : Found ℕ) (next : List ℕ → Option (List ℕ)) (o : List ℕ) → then_octets m next ≡ some o → Read m next o
-first_read nothing next o e = absurd (none-ne-some o e)
+first_read : (m : Found ℕ) (next : List ℕ → Option (List ℕ)) (o : List ℕ) → then_octets m next ≡ Some o → Read m next o
+first_read nothing next o e = absurd (none-some o e)
 first_read (found x rest) next o e = go (next rest) refl e
   where
-    go : (m : Option (List ℕ)) → next rest ≡ m → in_front_of (x ∷ []) m ≡ some o → Read (found x rest) next o
-    go none was e = absurd (none-ne-some o e)
-    go (some xs) was e = record { first = x; rest = rest; others = xs; was = refl; then = was; all = cc }
+    go : (m : Option (List ℕ)) → next rest ≡ m → in_front_of (x ∷ []) m ≡ Some o → Read (found x rest) next o
+    go None was e = absurd (none-some o e)
+    go (Some xs) was e = record { first = x; rest = rest; others = xs; was = refl; then = was; all = cc }
 
-octets_found : (n k : ℕ) (t o : List ℕ) → octets_from n k t ≡ some o → Listed n k t o
+octets_found : (n k : ℕ) (t o : List ℕ) → octets_from n k t ≡ Some o → Listed n k t o
 unfolding octets_from
 octets_found zero k t o e = none_listed zero k t o e
 octets_found (suc n) k [] o e = none_listed (suc n) k [] o e
@@ -95,7 +96,7 @@ octets_found (suc n) k (c ∷ t) o e =
     let s = octet_found k r.first (c ∷ t) r.rest r.was in
     rw (← r.all) (one_listed n k r.first (c ∷ t) r.rest r.others s (octets_found n (suc k) r.rest r.others r.then))
 
-pub read_entries : (t o : List ℕ) → entries_of t ≡ some o → Entries o × (t ≡ entries_text o)
+pub read_entries : (t o : List ℕ) → entries_of t ≡ Some o → Entries o × (t ≡ entries_text o)
 unfolding entries_of entries_text
 read_entries t o e =
     let l = octets_found 17000 0 t o e in
@@ -115,6 +116,6 @@ text_most o h = octets_most 0 o h
 -- ---- the page of a text
 
 -- a page of 1,000 lines has room for the entries of every text, so none is 28
-pub text_fits : (t o : List ℕ) → entries_of t ≡ some o → (len : ℕ) → 53000 ≤ len → page_fits o len ≡ true
+pub text_fits : (t o : List ℕ) → entries_of t ≡ Some o → (len : ℕ) → 53000 ≤ len → page_fits o len ≡ true
 unfolding page_fits
 text_fits t o e len h = let few = (read_entries t o e).0.few in le-leb (length (page_text o)) len (rw (page_long o) (omega arith))

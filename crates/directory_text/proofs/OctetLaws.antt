@@ -1,19 +1,18 @@
 -- Reading octets one by one: those that were read stand in front of what the rest of the text is.
+use Rattle.std.specs.Prelude.{Option, Some, None}
 use Prim.Native.Nat.{ℕ, zero, suc, ◌+◌, ◌-◌, ◌%◌, ◌≤◌, ◌<◌}
 use mathlib.Core.Bool.{true}
 use mathlib.Core.Path.{◌≡◌, refl, sym, ap, ◌∙◌}
-use mathlib.Core.Option.{Option, none, some}
 use mathlib.Core.List.{List, [], ◌∷◌, ◌++◌, append_assoc, append-nil}
 use native.Mathlib.Numerals.{add-one}
 use native.Mathlib.Omega.{arith}
-use lib.ListN.{length, take, drop, set}
-use lib.Seq.{take-suc-set}
+use lib.ListN.{length, drop, length-append}
 use borrow.Author.Tests.{eqb-true, eq-eqb, ne_eqb}
+use Rattle.std.proofs.lemmas.List.{nil_from_length}
 use Rattle.laws.specs.When.{when}
 use Rattle.laws.proofs.Decide.{whens}
 use Rattle.script.specs.Decimal.{decimal}
 use Rattle.script.specs.Reader.{nothing, found, begins, begins_digit, number}
-use Rattle.script.proofs.ReaderLaws.{here, past}
 use Rattle.script.proofs.NumberLaws.{number_text, holds}
 use Rattle.script.proofs.Meaning.{then_found, moved}
 use Rattle.directory_text.specs.Text.{behind, octet_in, in_front_of, none_from, octets_from, entries_of}
@@ -59,46 +58,52 @@ octets_end (suc n) k = refl
 -- ---- the octets that were read
 
 front_none : (m : Option (List ℕ)) → in_front_of [] m ≡ m
-front_none none = refl
-front_none (some ys) = refl
+front_none None = refl
+front_none (Some ys) = refl
 
 front_one : (xs : List ℕ) (x : ℕ) (m : Option (List ℕ)) → in_front_of xs (in_front_of (x ∷ []) m) ≡ in_front_of (xs ++ (x ∷ [])) m
-front_one xs x none = refl
-front_one xs x (some ys) = simp append_assoc
+front_one xs x None = refl
+front_one xs x (Some ys) = simp append_assoc
 
--- k octets, which stand in front of a buffer, and those that the rest of the text is
-abbrev pub all_of : List ℕ → ℕ → List ℕ → Option (List ℕ)
-all_of out k t = in_front_of (take k out) (octets_from (17000 - k) k t)
+-- octets that were read, and those that the rest of the text is
+abbrev pub all_of : List ℕ → List ℕ → Option (List ℕ)
+all_of xs t = in_front_of xs (octets_from (17000 - length xs) (length xs) t)
 
-pub all_begin : (out t : List ℕ) → all_of out 0 t ≡ entries_of t
+pub all_begin : (t : List ℕ) → all_of [] t ≡ entries_of t
 unfolding entries_of
-all_begin out t = front_none (octets_from 17000 0 t)
+all_begin t = front_none (octets_from 17000 0 t)
 
--- at a place of the text
-module _ (out text : List ℕ) (k at : ℕ) where
-  one_less : k < 17000 → 17000 - k ≡ suc (17000 - (k + 1))
+-- one octet more
+module _ (xs : List ℕ) where
+  one_less : length xs < 17000 → 17000 - length xs ≡ suc (17000 - (length xs + 1))
   one_less h = omega arith
 
-  pub all_on : (x : ℕ) (rest : List ℕ) → k < 17000 → k < length out → found x rest ≡ octet_in k (drop at text)
-      → all_of (set out k x) (k + 1) rest ≡ all_of out k (drop at text)
-  all_on x rest h g e =
-      rw (one_less h, octets_on (17000 - (k + 1)) k (drop at text) x rest e, add-one, take-suc-set out k x g)
-      (sym (front_one (take k out) x (octets_from (17000 - suc k) (suc k) rest)))
+  pub all_on : (x : ℕ) (t rest : List ℕ) → length xs < 17000 → found x rest ≡ octet_in (length xs) t → all_of (xs ++ (x ∷ [])) rest ≡ all_of xs t
+  all_on x t rest h e =
+      rw (one_less h, octets_on (17000 - (length xs + 1)) (length xs) t x rest e, length-append, add-one)
+      (sym (front_one xs x (octets_from (17000 - suc (length xs)) (suc (length xs)) rest)))
 
-  -- before its end
-  module _ (h : at < length text) where
-    pub too_many : k ≡ 17000 → none ≡ all_of out k (drop at text)
-    unfolding octets_from
-    too_many e = let z : 17000 - k ≡ 0 = omega arith in rw (z, here text at h)
+  -- before the text's end
+  pub too_many : (t : List ℕ) → length xs ≡ 17000 → (t ≡ [] → ⊥) → None ≡ all_of xs t
+  unfolding octets_from
+  too_many [] e h = absurd (h refl)
+  too_many (c ∷ t) e h = let z : 17000 - length xs ≡ 0 = omega arith in rw z
 
-    pub all_off : k < 17000 → nothing ≡ octet_in k (drop at text) → none ≡ all_of out k (drop at text)
-    unfolding octets_from
-    all_off g e = rw (one_less g, here text at h, ← (rw (here text at h) at e))
+  pub all_off : (t : List ℕ) → length xs ≤ 17000 → (t ≡ [] → ⊥) → nothing ≡ octet_in (length xs) t → None ≡ all_of xs t
+  unfolding octets_from
+  all_off t h some e = go t some e (17000 - length xs)
+    where
+      go : (t : List ℕ) → (t ≡ [] → ⊥) → nothing ≡ octet_in (length xs) t → (n : ℕ) → None ≡ in_front_of xs (octets_from n (length xs) t)
+      go [] some e n = absurd (some refl)
+      go (c ∷ t) some e zero = refl
+      go (c ∷ t) some e (suc n) = rw (← e)
 
   -- at its end
-  module _ (h : length text ≤ at) where
-    pub whole_end : k % 17 ≡ 0 → some (take k out) ≡ all_of out k (drop at text)
-    whole_end e = rw (past text at h, octets_end (17000 - k) k) (simp (whens, eq-eqb _ _ e, append-nil))
+  pub whole_end : (t : List ℕ) → length t ≡ 0 → length xs % 17 ≡ 0 → all_of xs t ≡ Some xs
+  whole_end t none e = let nothing_left : t ≡ [] = nil_from_length t none in rw (nothing_left, octets_end (17000 - length xs) (length xs)) (simp (whens, eq-eqb _ _ e, append-nil))
 
-    pub part_end : (k % 17 ≡ 0 → ⊥) → none ≡ all_of out k (drop at text)
-    part_end e = rw (past text at h, octets_end (17000 - k) k) (simp (whens, ne_eqb _ _ e))
+  pub part_end : (t : List ℕ) → length t ≡ 0 → (length xs % 17 ≡ 0 → ⊥) → all_of xs t ≡ None
+  part_end t none e = let nothing_left : t ≡ [] = nil_from_length t none in rw (nothing_left, octets_end (17000 - length xs) (length xs)) (simp (whens, ne_eqb _ _ e))
+
+-- for the proof of the function that reads them
+pub ruleset entries = (all_begin, all_on, too_many, all_off, whole_end, part_end)

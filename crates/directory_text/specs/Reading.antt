@@ -1,15 +1,8 @@
--- How the reader says what it found: so many octets in front of a buffer.
-use Rattle.std.specs.Prelude.{ℕ, ◌≤◌, List, length, take}
-use Rattle.std.proofs.Math.Option.{Option, none, some}
-use Rattle.directory_text.specs.declared.EntriesRead.{EntriesRead}
-use Rattle.directory_text.specs.declared.EntriesRead.TheVariants.{Are, Nothing}
+-- How the reader says what it found: the octets in a vector of fixed memory.
+use Rattle.std.specs.Prelude.{ℕ, List, Option, Some, None}
+use Rattle.arrayvec.specs.ArrayVec.{ArrayVec}
 
 -- the octets read
-abbrev pub read_into : List ℕ → EntriesRead → Option (List ℕ)
-read_into octets (Are n) = some (take n octets)
-read_into octets Nothing = none
-
--- they are within the buffer
-abbrev pub InBuffer : List ℕ → EntriesRead → Type 0
-InBuffer octets (Are n) = n ≤ length octets
-InBuffer octets Nothing = Unit {0}
+abbrev pub read_as : Option (ArrayVec ℕ) → Option (List ℕ)
+read_as (Some v) = Some v.items
+read_as None = None

@@ -2,8 +2,7 @@
 -- has in the directory call's store. It is a line: its octets in decimal, without leading zeros, parted by single spaces, and one
 -- newline. No entries are the empty text.
 -- Exactly the texts of whole entries are read: `entries_read` and `read_entries` (proofs/Meaning.antt).
-use Rattle.std.specs.Prelude.{ℕ, zero, suc, ◌*◌, ◌%◌, ◌≤◌, ◌≡◌, List, [], ◌∷◌, ◌++◌, eqb, length, drop}
-use Rattle.std.proofs.Math.Option.{Option, none, some}
+use Rattle.std.specs.Prelude.{ℕ, zero, suc, ◌*◌, ◌%◌, ◌≤◌, ◌≡◌, List, [], ◌∷◌, ◌++◌, eqb, length, drop, Option, Some, None}
 use Rattle.laws.specs.When.{when}
 use Rattle.script.specs.Decimal.{decimal}
 use Rattle.script.specs.Script.{Octets}
@@ -41,18 +40,18 @@ octet_in k t = then_read (number 255 t) (λ x rest. when (begins (behind k) rest
 
 -- octets in front of those that the rest of a text is
 abbrev pub in_front_of : List ℕ → Option (List ℕ) → Option (List ℕ)
-in_front_of xs none = none
-in_front_of xs (some ys) = some (xs ++ ys)
+in_front_of xs None = None
+in_front_of xs (Some ys) = Some (xs ++ ys)
 
 -- the octet found in front of those that the rest of the text is
 abbrev pub then_octets : Found ℕ → (List ℕ → Option (List ℕ)) → Option (List ℕ)
-then_octets nothing more = none
+then_octets nothing more = None
 then_octets (found x rest) more = in_front_of (x ∷ []) (more rest)
 
 -- no octet more: the text ends before octet k, behind a whole entry
 abbrev pub none_from : ℕ → List ℕ → Option (List ℕ)
-none_from k [] = when (eqb (k % 17) 0) (some []) none
-none_from k (c ∷ t) = none
+none_from k [] = when (eqb (k % 17) 0) (Some []) None
+none_from k (c ∷ t) = None
 
 -- at most n octets, of which the first is octet k
 unfoldable pub octets_from : ℕ → ℕ → List ℕ → Option (List ℕ)

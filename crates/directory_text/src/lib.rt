@@ -2,16 +2,15 @@
 // is its 17 octets in decimal, without leading zeros, parted by single spaces, and one newline.
 #![tactic(auto)]
 
-ghost use Rattle.std.specs.Prelude.{◌≡◌, ◌≤◌, length, drop};
-ghost use Rattle.script.specs.Places.{found_at};
+ghost use Rattle.std.specs.Prelude.{◌≡◌, ◌≤◌, length, IfOk};
+ghost use Rattle.script.specs.Left.{found_in};
 ghost use Rattle.directory_text.specs.Text.{behind, octet_in, entries_of};
-ghost use Rattle.directory_text.specs.Reading.{read_into, InBuffer};
+ghost use Rattle.directory_text.specs.Reading.{read_as};
 ghost use Rattle.directory_text.specs.Answers.{text_answer, text_after};
 
+use arrayvec::ArrayVec;
 use asdu::FtError;
-use directory_page::PrintResult;
-use script::read;
-use script::read::Reading;
+use script::read::Reader;
 use stored::STORED;
 
 // The most octets of a text's entries, of which there are a thousand at most.
@@ -20,73 +19,50 @@ const MAX_OCTETS: usize = 17000;
 // The largest octet.
 const LARGEST: u32 = 255;
 
-// How many octets the entries of a text have, or that it is no text of entries.
-#[derive(Clone, Copy)]
-enum EntriesRead {
-    Are(usize),
-    Nothing,
-}
-
 // What stands behind octet k of a text: a newline behind the last of an entry, else a space.
+#[tactic(auto, using(laws::proofs::Decide::decide), unfolding(crate::specs::Text::behind))]
 fn behind(k: usize) -> u8
     ensures { result ≡ behind k }
 {
-    if k % STORED == 16 {
-        return b'\n';
-    }
-    b' '
+    if k % STORED == 16 { b'\n' } else { b' ' }
 }
 
-// Octet k at the place, and the place after what stands behind it.
-fn octet_at(text: &[u8], at: usize, k: usize) -> Reading
-    ensures { found_at text.now result ≡ octet_in k (drop at text.now) }
+// Octet k, and what stands behind it.
+#[tactic(auto, using(laws::proofs::Decide::decide), unfolding(crate::specs::Text::octet_in, script::specs::Reader::begins))]
+fn octet_in(reader: &mut Reader, k: usize) -> Option<u8>
+    ensures { found_in result reader.new.rest.now ≡ octet_in k reader.old.rest.now }
 {
-    let reading = read::number_at(text, at, LARGEST);
-    let Reading::Number { value, next } = reading else {
-        return Reading::Nothing;
-    };
-    if read::is_at(text, next, behind(k)) {
-        return Reading::Number {
-            value,
-            next: next + 1,
-        };
-    }
-    Reading::Nothing
+    let octet = reader.number(LARGEST)?;
+    reader.octet(behind(k))?;
+    Some(octet as u8)
 }
 
-// Reads the entries of a text over the front of a buffer; what a refusal leaves there is open.
-fn read_entries(text: &[u8], octets: &mut [u8]) -> EntriesRead
-    requires { 17000 ≤ length octets.old }
-    ensures { (read_into octets.new result ≡ entries_of text.now) × InBuffer octets.new result }
+// Reads the entries of a text.
+#[tactic(auto, using(crate::proofs::OctetLaws::entries))]
+fn read_entries(text: &[u8]) -> Option<ArrayVec<u8, MAX_OCTETS>>
+    ensures { read_as result ≡ entries_of text.now }
 {
-    let mut at = 0;
-    let mut count = 0;
-    while at < text.len() {
-        if count == MAX_OCTETS {
-            return EntriesRead::Nothing;
-        }
-        let reading = octet_at(text, at, count);
-        let Reading::Number { value, next } = reading else {
-            return EntriesRead::Nothing;
-        };
-        octets[count] = value as u8;
-        at = next;
-        count += 1;
+    let mut reader = Reader { rest: text };
+    let mut octets = ArrayVec::new();
+    // A `for` is no plainer: how many octets come is told by the text's end alone.
+    while !reader.rest.is_empty() {
+        let octet = octet_in(&mut reader, octets.len())?;
+        octets.try_push(octet).ok()?;
     }
-    if count % STORED == 0 {
-        return EntriesRead::Are(count);
+    if octets.len() % STORED != 0 {
+        return None;
     }
-    EntriesRead::Nothing
+    Some(octets)
 }
 
 // Writes the page of the entries that a text is over the front of a lent page, and answers how many octets it
 // has. A text that is no entries is 11, before all else, and what is refused writes nothing.
-pub fn write(text: &[u8], page: &mut [u8]) -> PrintResult
-    ensures { (result ≡ text_answer (entries_of text.now) (length page.old)) × (page.new ≡ text_after (entries_of text.now) page.old) }
+#[tactic(auto, unfolding(crate::specs::Answers::text_answer, crate::specs::Answers::text_after))]
+pub fn write(text: &[u8], page: &mut [u8]) -> Result<usize, FtError>
+    ensures { (result ≡ text_answer (entries_of text.now) (length page.old)) × (page.new ≡ text_after (entries_of text.now) page.old) × IfOk result (λ n. n ≤ length page.old) }
 {
-    let mut octets = [0u8; 17000];
-    match read_entries(text, &mut octets) {
-        EntriesRead::Are(count) => directory_page::write(&octets[..count], page),
-        EntriesRead::Nothing => PrintResult::Err(FtError::ScriptMisshapen),
-    }
+    let Some(octets) = read_entries(text) else {
+        return Err(FtError::ScriptMisshapen);
+    };
+    directory_page::write(&octets, page)
 }

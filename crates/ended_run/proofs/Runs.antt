@@ -6,12 +6,12 @@ use mathlib.Core.List.{List}
 use native.Mathlib.Omega.{arith}
 use lib.ListN.{length}
 use borrow.Author.Tests.{leb-true}
+use Rattle.std.specs.Prelude.{Ok}
 use Rattle.twoparty.specs.declared.Settings.{Settings}
 use Rattle.run.specs.Run.{two_party, script_frames}
 use Rattle.run.proofs.Running.{Accepted}
 use Rattle.run.proofs.Endings.{run_whole, run_spent}
 use Rattle.ended_run.specs.Record.{in32_bits, record_of}
-use Rattle.ended_run.specs.declared.RecordResult.TheVariants.{Ok}
 
 module _ (s : Settings) (file damage store : List ℕ) (a : Accepted s file damage store) (budget damaged : ℕ) where
   -- with a budget that its frames do not exceed: the file's octets, and the frames of the two-party theorem

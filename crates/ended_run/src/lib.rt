@@ -3,21 +3,20 @@
 #![tactic(auto)]
 
 ghost use Rattle.std.specs.Prelude.{◌≡◌};
-ghost use Rattle.ended_run.specs.Record.{record_with, record_of};
+ghost use Rattle.ended_run.specs.Record.{in32_bits, record_with, record_of};
 
 use asdu::FtError;
-use counts::in_32_bits;
-use run::RunResult;
+use run::Ending;
 use window::Ended;
 
-// The record of a run that ended; or the refusal of one that never began, which has none.
-#[derive(Clone, Copy)]
-pub enum RecordResult {
-    Ok(Ended),
-    Err(FtError),
+// A number over 32 bits stays at their largest value.
+fn in_32_bits(n: usize) -> u32
+    ensures { result ≡ in32_bits n }
+{
+    u32::try_from(n).unwrap_or(u32::MAX)
 }
 
-// A record of these numbers; one over 32 bits stays at their largest value.
+// A record of these numbers.
 fn recorded(octets: usize, frames: usize, damaged: usize, whole: bool) -> Ended
     ensures { result ≡ record_with octets frames damaged whole }
 {
@@ -31,14 +30,11 @@ fn recorded(octets: usize, frames: usize, damaged: usize, whole: bool) -> Ended
 
 // The record of a run by its answer, with so many damaged sendings. A spent run's answer names no octets, and
 // none are counted as held.
-pub fn record_of(res: RunResult, damaged: usize) -> RecordResult
+pub fn record_of(res: Result<Ending, FtError>, damaged: usize) -> Result<Ended, FtError>
     ensures { result ≡ record_of res damaged }
 {
-    match res {
-        RunResult::Whole { length, frames } => {
-            RecordResult::Ok(recorded(length, frames, damaged, true))
-        }
-        RunResult::Spent { frames } => RecordResult::Ok(recorded(0, frames, damaged, false)),
-        RunResult::Err(error) => RecordResult::Err(error),
+    match res? {
+        Ending::Whole { length, frames } => Ok(recorded(length, frames, damaged, true)),
+        Ending::Spent { frames } => Ok(recorded(0, frames, damaged, false)),
     }
 }

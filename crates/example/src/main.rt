@@ -4,159 +4,149 @@
 // and the type of each frame, as a line of document 01's script begins, then what the desk holds.
 #![tactic(auto)]
 
-use asdu::{Nof, UnknownField};
+use asdu::{FtError, Nof};
 use frame::Frame;
-use ft::{FileTransferProcedure, ProcedureResult, Received, Selection, build};
-use provide::{CountResult, FrameResult, PartResult, Provider, ProviderResult, ProviderStep};
-use receive::{Receiver, ReceiverAnswer, ReceiverResult, ReceiverStep, ToSend};
+use ft::{FileTransferProcedure, Incoming, Received, Selection, build};
+use output::Output;
+use provide::Provider;
+use receive::{Receiver, ReceiverAnswer, ReceiverStep};
 use requests::{ProviderAnswer, Reply};
-
-// Standard output.
-const STDOUT: i32 = 1;
+use std::fmt;
+use std::fmt::Write;
 
 // The common address of both stations, and the file: its object address and name.
 const STATION: u16 = 1;
 
 const OBJECT: u32 = 100;
 
-const NAME: u16 = 7;
+const NAME: Nof = Nof { value: 7 };
 
-// The desk's store.
-type Store = [u8; 8];
-
-fn text(words: &[u8]) {
-    io::write_all(STDOUT, words);
+// Why a transfer stops before its end: the library refuses a call, or nothing can be printed.
+#[derive(Drop)]
+enum Stop {
+    Refused(FtError),
+    Printing(fmt::Error),
 }
 
-fn number(word: &[u8], n: u64) {
-    text(word);
-    io::print_decimal(STDOUT, n);
-    text(b"\n");
+impl From<FtError> for Stop {
+    fn from(error: FtError) -> Stop {
+        Stop::Refused(error)
+    }
 }
 
-fn octet(x: u8) {
-    number(b"", x as u64);
+impl From<fmt::Error> for Stop {
+    fn from(error: fmt::Error) -> Stop {
+        Stop::Printing(error)
+    }
 }
 
-fn shown(sender: &[u8], frame: Frame) {
-    number(sender, frame.type_id() as u64);
+// A frame of the other station as it comes in, every field of it known.
+fn incoming(frame: Frame) -> Incoming {
+    Incoming {
+        header: build::header_of(STATION, 0, frame),
+        unknown: None,
+        received: Received::Frame(frame),
+    }
 }
 
-// The frame at an index of the recorder's reply reaches the desk, with the part of the file beside it.
-fn goes_out(
+// The recorder: its record and its file.
+#[derive(Drop)]
+struct Recorder<'a> {
     provider: Provider,
-    file: &[u8],
-    reply: Reply,
-    index: usize,
-    desk: ReceiverStep,
-    store: &mut Store,
-) -> ReceiverStep {
-    let FrameResult::Ok(frame) = provider.reply_frame(file, reply, index) else {
-        return desk;
-    };
-    let PartResult::Ok(part) = provider.reply_payload(file, reply, index) else {
-        return desk;
-    };
-    desk_hears(desk.receiver, store, frame, part.octets(file))
+    file: &'a [u8],
 }
 
-// The recorder's answer: all frames of its reply, where it has one.
-fn answered(
-    heard: ProviderStep,
-    file: &[u8],
-    desk: ReceiverStep,
-    store: &mut Store,
-) -> ReceiverStep {
-    let mut step = desk;
-    let answer = heard.answer;
-    let ProviderAnswer::Running(reply) = answer else {
-        return step;
-    };
-    let CountResult::Ok(count) = heard.provider.reply_count(file, reply) else {
-        return step;
-    };
-    let mut index = 0;
-    while index < count {
-        step = goes_out(heard.provider, file, reply, index, step, store);
-        index += 1;
+impl<'a> Recorder<'a> {
+    // A controlled station that provides a file in the monitor direction.
+    fn new(file: &'a [u8]) -> Result<Recorder<'a>, FtError> {
+        let station = FileTransferProcedure::controlled(Selection::MONITOR, STATION, 0)?;
+        let provider = Provider::new(station, OBJECT, NAME, file)?;
+        Ok(Recorder { provider, file })
     }
-    step
-}
 
-// What the desk sends comes in at the recorder, which then has a reply to send, or has ended.
-fn recorder_hears(provider: Provider, file: &[u8], sent: ToSend) -> ProviderStep {
-    let ToSend::Frame(frame) = sent else {
-        let answer = ProviderAnswer::Running(Reply::Nothing);
-        return ProviderStep { provider, answer };
-    };
-    shown(b"R ", frame);
-    let header = build::header_of(STATION, 0, frame);
-    let received = Received::Frame(frame);
-    provider.on_asdu(file, header, UnknownField::Nothing, received, b"")
-}
-
-// A frame of the recorder's comes in at the desk, and beside a segment its octets.
-fn desk_hears(desk: Receiver, store: &mut Store, frame: Frame, beside: &[u8]) -> ReceiverStep {
-    shown(b"P ", frame);
-    let header = build::header_of(STATION, 0, frame);
-    let received = Received::Frame(frame);
-    desk.on_asdu(store, header, UnknownField::Nothing, received, beside)
-}
-
-// What the desk has to send goes to the recorder, whose answer comes back. By the theorem a desk sends
-// 3 + 2 × n frames for n sections that nothing damages, and this file is one section.
-fn transfer(provider: Provider, file: &[u8], desk: Receiver, store: &mut Store) -> ReceiverAnswer {
-    let mut recorder = provider;
-    let mut step = desk.start(store);
-    let mut left = 5usize;
-    while 0 < left {
-        let heard = recorder_hears(recorder, file, step.to_send());
-        recorder = heard.provider;
-        step = answered(heard, file, step, store);
-        left -= 1;
-    }
-    step.answer
-}
-
-// The recorder: a controlled station that provides a file in the monitor direction.
-fn recorder(file: &[u8]) -> ProviderResult {
-    match FileTransferProcedure::controlled(Selection::MONITOR, STATION, 0) {
-        ProcedureResult::Ok(station) => Provider::new(station, OBJECT, Nof { value: NAME }, file),
-        ProcedureResult::Err(error) => ProviderResult::Err(error),
+    // A frame of the desk's comes in; the reply is what is then to be sent.
+    fn hear(&mut self, frame: Frame) -> Reply {
+        let step = self.provider.on_asdu(self.file, incoming(frame), b"");
+        self.provider = step.provider;
+        match step.answer {
+            ProviderAnswer::Running(reply) => reply,
+            _ => Reply::Nothing,
+        }
     }
 }
 
-// The desk: a controlling station that asks for that file.
-fn desk() -> ReceiverResult {
-    match FileTransferProcedure::controlling(Selection::MONITOR, STATION, 0) {
-        ProcedureResult::Ok(station) => Receiver::new(station, OBJECT, Nof { value: NAME }),
-        ProcedureResult::Err(error) => ReceiverResult::Err(error),
+// The desk: where its record stands, and its store.
+#[derive(Drop)]
+struct Desk {
+    step: ReceiverStep,
+    store: [u8; 8],
+}
+
+impl Desk {
+    // A controlling station that asks for the recorder's file.
+    fn new() -> Result<Desk, FtError> {
+        let station = FileTransferProcedure::controlling(Selection::MONITOR, STATION, 0)?;
+        let receiver = Receiver::new(station, OBJECT, NAME)?;
+        let store = [0; 8];
+        Ok(Desk {
+            step: receiver.start(&store),
+            store,
+        })
     }
+
+    // A frame of the recorder's comes in, and beside a segment its octets.
+    fn hear(&mut self, frame: Frame, beside: &[u8]) {
+        self.step = self
+            .step
+            .receiver
+            .on_asdu(&mut self.store, incoming(frame), beside);
+    }
+}
+
+// What the desk has to send goes to the recorder, and the frames of its reply come back, each with the part
+// of the file beside it. By the theorem a desk sends 3 + 2 × n frames for n sections that nothing damages,
+// and this file is one section.
+fn transfer<W: fmt::Write>(
+    out: &mut W,
+    recorder: &mut Recorder<'_>,
+    desk: &mut Desk,
+) -> Result<(), Stop> {
+    for _ in 0..5 {
+        let Some(sent) = desk.step.to_send() else {
+            break;
+        };
+        writeln!(out, "R {}", sent.type_id())?;
+        let reply = recorder.hear(sent);
+        for index in 0..recorder.provider.reply_count(recorder.file, reply)? {
+            let frame = recorder.provider.reply_frame(recorder.file, reply, index)?;
+            let part = recorder
+                .provider
+                .reply_payload(recorder.file, reply, index)?;
+            writeln!(out, "P {}", frame.type_id())?;
+            desk.hear(frame, part.octets(recorder.file));
+        }
+    }
+    Ok(())
 }
 
 // Complete: the store's first octets, so many, are the file.
-fn told(answer: ReceiverAnswer) {
-    if let ReceiverAnswer::Complete { length } = answer {
-        number(b"whole ", length as u64);
-    } else {
-        text(b"ended\n");
+fn run<W: fmt::Write>(out: &mut W, file: &[u8]) -> Result<(), Stop> {
+    let mut recorder = Recorder::new(file)?;
+    let mut desk = Desk::new()?;
+    transfer(out, &mut recorder, &mut desk)?;
+    match desk.step.answer {
+        ReceiverAnswer::Complete { length } => writeln!(out, "whole {length}")?,
+        _ => writeln!(out, "ended")?,
     }
+    let [first, second, ..] = desk.store;
+    writeln!(out, "{first}\n{second}")?;
+    Ok(())
 }
 
-fn with_desk(provider: Provider, file: &[u8], store: &mut Store) {
-    match desk() {
-        ReceiverResult::Ok(desk) => told(transfer(provider, file, desk, store)),
-        ReceiverResult::Err(error) => number(b"refused ", error.number() as u64),
-    }
-}
-
+// A refusal is told; nobody is left to tell where nothing can be printed.
 fn main() {
-    let file = [200u8, 100];
-    let mut store: Store = [0u8; 8];
-    match recorder(&file) {
-        ProviderResult::Ok(provider) => with_desk(provider, &file, &mut store),
-        ProviderResult::Err(error) => number(b"refused ", error.number() as u64),
+    let mut out = Output;
+    if let Err(Stop::Refused(error)) = run(&mut out, &[200, 100]) {
+        let _ = writeln!(out, "refused {}", error.number());
     }
-    octet(store[0]);
-    octet(store[1]);
 }

@@ -9,6 +9,7 @@ use native.Mathlib.Nat.{suc-mul}
 use lib.ListN.{length, take, drop, length-append, length-drop, length-take, take-append-drop}
 use lib.Seq.{take_all, drop-drop, drop-append_seam}
 use borrow.Author.Tests.{le-leb, eq-eqb}
+use Rattle.std.specs.Prelude.{Option, Some}
 use Rattle.laws.specs.When.{when}
 use Rattle.lists.specs.Parts.{div_ceil, parts}
 use Rattle.asdu.specs.declared.Nos.{Nos}
@@ -31,8 +32,6 @@ use Rattle.receive.specs.Record.{with_state, awaited}
 use Rattle.receive.specs.Answers.{on_section_ready, on_close, to_send}
 use Rattle.receive.specs.declared.Sent.{Sent}
 use Rattle.receive.specs.declared.Sent.TheVariants as S
-use Rattle.receive.specs.declared.Length.{Length}
-use Rattle.receive.specs.declared.Length.TheVariants.{Known}
 use Rattle.receive.specs.declared.ReceiverAnswer.{ReceiverAnswer}
 use Rattle.receive.specs.declared.ReceiverAnswer.TheVariants as Ra
 use Rattle.exchange.specs.Exchange.{by_provider, by_receiver, Noise, Passing, flown, Exchange, provided, sent_by}
@@ -50,7 +49,7 @@ module _ (m : Transfer) where
 
   -- ---- one section, from its announcement to its acceptance
 
-  module _ (wide : 0 < limit m) (l : Length) (nos : Nos) (acc o : List ℕ) (is : octets_of (P m) m.file nos ≡ o) (small : length o ≤ 0xFFFFFF)
+  module _ (wide : 0 < limit m) (l : Option ℕ) (nos : Nos) (acc o : List ℕ) (is : octets_of (P m) m.file nos ≡ o) (small : length o ≤ 0xFFFFFF)
       (x : Sendings) (bad : AllDamaged (limit m) o x.damaged) (good : Intact (limit m) o x.intact) where
     -- its last sending
     intact_passes : (radio : List Noise) (s : Sent) (rest : List ℕ) (t : List Passing) (u : ProviderAnswer) (v : ReceiverAnswer) → Heard m s nos → length o ≤ length rest
@@ -111,7 +110,7 @@ module _ (m : Transfer) where
       record {
         queue = ask m (ack m 1 nos) ∷ [];
         provider = P m;
-        receiver = with_state (R m S.Nothing (Known 0) 0 0) (ack m 1 nos) (Known (length m.file)) (length m.file) 0 true;
+        receiver = with_state (R m S.Nothing (Some 0) 0 0) (ack m 1 nos) (Some (length m.file)) (length m.file) 0 true;
         store = m.file ++ rest;
         radio = radio;
         passed = t;
@@ -144,11 +143,11 @@ module _ (m : Transfer) where
   finish : (nos : Nos) (rest : List ℕ) (radio : List Noise) (t : List Passing) (u : ProviderAnswer) (v : ReceiverAnswer)
       → nos ≡ record { value = count } → rest ≡ drop (length m.file) m.store
       → sent_by by_provider t + 1 ≡ provider_frames m → sent_by by_receiver t + 1 ≡ receiver_frames m
-      → Ends m (Ex m (tell m (close_frame (P m) nos 1 m.file) ∷ []) (ack m 3 nos) (Known (length m.file)) m.file [] rest radio t u v)
+      → Ends m (Ex m (tell m (close_frame (P m) nos 1 m.file) ∷ []) (ack m 3 nos) (Some (length m.file)) m.file [] rest radio t u v)
   unfolding on_close to_send awaited when
   finish nos rest radio t u v last behind na mb =
-      takes m nos.value (ack m 3 nos) (Known (length m.file)) m.file [] rest radio t u v _ [] (closed nos rest radio u) refl refl refl (closes_file_lem nos _ _)
-      (simp (RF.file_accepted (R m (ack m 3 nos) (Known (length m.file)) (length m.file) 0) m.file [] rest refl refl nos (record { value = checksum m.file }) refl))
+      takes m nos.value (ack m 3 nos) (Some (length m.file)) m.file [] rest radio t u v _ [] (closed nos rest radio u) refl refl refl (closes_file_lem nos _ _)
+      (simp (RF.file_accepted (R m (ack m 3 nos) (Some (length m.file)) (length m.file) 0) m.file [] rest refl refl nos (record { value = checksum m.file }) refl))
       (λ t' d. ends nos rest radio u t' last behind (omega arith) (omega arith))
 
   -- ---- the sections in turn: acc is accepted, rem is left of the file, and section j + 1 is announced
@@ -200,20 +199,20 @@ module _ (m : Transfer) where
     -- a section that is followed by another
     one_passes : (xs : List Sendings) → drop j m.radio ≡ x ∷ xs → suc j < count
         → ((t' : List Passing) (u' : ProviderAnswer) (v' : ReceiverAnswer) → Adds (suc j) t t' (1 + mine) (2 + length x.damaged) (1 + length x.damaged)
-        → Ends m (Ex m (tell m (section_ready (P m) m.file (number (suc j))) ∷ []) (ack m 3 (number j)) (Known (length m.file)) (acc ++ take size rem) []
+        → Ends m (Ex m (tell m (section_ready (P m) m.file (number (suc j))) ∷ []) (ack m 3 (number j)) (Some (length m.file)) (acc ++ take size rem) []
         (drop (length (take size rem)) rest) (in_order xs) t' u' v'))
-        → Ends m (Ex m (tell m (section_ready (P m) m.file (number j)) ∷ []) s (Known (length m.file)) acc [] rest (x.damaged ++ (x.intact ∷ in_order xs)) t u v)
+        → Ends m (Ex m (tell m (section_ready (P m) m.file (number j)) ∷ []) s (Some (length m.file)) acc [] rest (x.damaged ++ (x.intact ∷ in_order xs)) t u v)
     one_passes xs at more k =
-        section_passes wide (Known (length m.file)) (number j) acc (take size rem) (octets_at_lem j rem is) small x bad good (in_order xs) (meets_own j x xs at) s rest t u v before awaits (simp length-take (omega arith))
-        (λ t₁ u' d₁. asked_ack m (suc j) (ack m 3 (number j)) (Known (length m.file)) (acc ++ take size rem) [] (drop (length (take size rem)) rest) (in_order xs) t₁ u' _ (number j) 3 (SectionReady (number (suc j))) 0 refl (next j more) tt (asks_none (suc j) (asking m (ack m 3 (number j))) refl)
+        section_passes wide (Some (length m.file)) (number j) acc (take size rem) (octets_at_lem j rem is) small x bad good (in_order xs) (meets_own j x xs at) s rest t u v before awaits (simp length-take (omega arith))
+        (λ t₁ u' d₁. asked_ack m (suc j) (ack m 3 (number j)) (Some (length m.file)) (acc ++ take size rem) [] (drop (length (take size rem)) rest) (in_order xs) t₁ u' _ (number j) 3 (SectionReady (number (suc j))) 0 refl (next j more) tt (asks_none (suc j) (asking m (ack m 3 (number j))) refl)
         (λ t₂ d₂. k t₂ _ _ (omega arith)))
 
     -- the last one
     last_passes : drop j m.radio ≡ x ∷ [] → suc j ≡ count → sent_by by_provider t + (2 + mine) ≡ provider_frames m → sent_by by_receiver t + (3 + length x.damaged) ≡ receiver_frames m
-        → Ends m (Ex m (tell m (section_ready (P m) m.file (number j)) ∷ []) s (Known (length m.file)) acc [] rest (x.damaged ++ (x.intact ∷ [])) t u v)
+        → Ends m (Ex m (tell m (section_ready (P m) m.file (number j)) ∷ []) s (Some (length m.file)) acc [] rest (x.damaged ++ (x.intact ∷ [])) t u v)
     last_passes at e na mb =
-        section_passes wide (Known (length m.file)) (number j) acc (take size rem) (octets_at_lem j rem is) small x bad good [] (meets_own j x [] at) s rest t u v before awaits (simp length-take (omega arith))
-        (λ t₁ u' d₁. asked_ack m (suc j) (ack m 3 (number j)) (Known (length m.file)) (acc ++ take size rem) [] (drop (length (take size rem)) rest) [] t₁ u' _ (number j) 3 (FileClose (number j)) 0 refl (none_next j e) tt (asks_none (suc j) (asking m (ack m 3 (number j))) refl)
+        section_passes wide (Some (length m.file)) (number j) acc (take size rem) (octets_at_lem j rem is) small x bad good [] (meets_own j x [] at) s rest t u v before awaits (simp length-take (omega arith))
+        (λ t₁ u' d₁. asked_ack m (suc j) (ack m 3 (number j)) (Some (length m.file)) (acc ++ take size rem) [] (drop (length (take size rem)) rest) [] t₁ u' _ (number j) 3 (FileClose (number j)) 0 refl (none_next j e) tt (asks_none (suc j) (asking m (ack m 3 (number j))) refl)
         (λ t₂ d₂. rw (take_all size rem (last_fits j rem e is), kept)
         (finish (number j) (drop (length rem) rest) [] t₂ _ _ (ap (λ (n : ℕ). record { value = n }) e) behind (omega arith) (omega arith))))
 
@@ -226,7 +225,7 @@ module _ (m : Transfer) where
       → DamagedThenIntact (limit m) (parts (suc c) size rem) xs
       → sent_by by_provider t + (suc c + sending_frames (limit m) (parts (suc c) size rem) xs) + 1 ≡ provider_frames m
       → sent_by by_receiver t + (2 * suc c + damaged_sendings xs) + 1 ≡ receiver_frames m
-      → Ends m (Ex m (tell m (section_ready (P m) m.file (number j)) ∷ []) s (Known (length m.file)) acc [] rest (in_order xs) t u v)
+      → Ends m (Ex m (tell m (section_ready (P m) m.file (number j)) ∷ []) s (Some (length m.file)) acc [] rest (in_order xs) t u v)
 
   none_said : (c j : ℕ) → Pass c j []
   unfolding Pass

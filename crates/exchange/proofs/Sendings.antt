@@ -8,6 +8,7 @@ use native.Mathlib.Omega.{arith}
 use lib.ListN.{length, drop, length-append, length-drop}
 use lib.Seq.{drop-append-add, drop-drop}
 use borrow.Author.Tests.{eq-eqb}
+use Rattle.std.specs.Prelude.{Option}
 use Rattle.laws.specs.When.{when}
 use Rattle.lists.specs.Parts.{div_ceil, joined}
 use Rattle.lists.proofs.Parts.{Fit, length-parts, joined_all, fit_all}
@@ -28,7 +29,6 @@ use Rattle.requests.specs.declared.ProviderAnswer.{ProviderAnswer}
 use Rattle.requests.specs.declared.ProviderAnswer.TheVariants as PA
 use Rattle.receive.specs.Record.{awaited}
 use Rattle.receive.specs.Answers.{on_close, to_send}
-use Rattle.receive.specs.declared.Length.{Length}
 use Rattle.receive.specs.declared.ReceiverAnswer.{ReceiverAnswer}
 use Rattle.receive.specs.declared.ReceiverAnswer.TheVariants as Ra
 use Rattle.receive.specs.declared.Sent.{Sent}
@@ -74,7 +74,7 @@ module _ (m : Transfer) where
 
   -- ---- the segments: each lemma is one clause of the recursion
 
-  module _ (l : Length) (nos : Nos) (acc : List ℕ) (radio : List Noise) (s : Sent) (u : ProviderAnswer) (c : Frame) (heard : Heard s nos) where
+  module _ (l : Option ℕ) (nos : Nos) (acc : List ℕ) (radio : List Noise) (s : Sent) (u : ProviderAnswer) (c : Frame) (heard : Heard s nos) where
     -- these segments pass with these fates: what arrives of them is under way, and frame c is next
     unfoldable Pass : List (List ℕ) → List Fate → Type 0
     Pass os fs =
@@ -125,7 +125,7 @@ module _ (m : Transfer) where
   pub sent_payloads : (nos : Nos) (o : List ℕ) → payloads (packets nos o) ≡ segments limit o
   sent_payloads nos o = payloads_behind (P m) nos (close_frame (P m) nos 3 o) refl (segments limit o)
 
-  module _ (wide : 0 < limit) (l : Length) (nos : Nos) (acc o : List ℕ) where
+  module _ (wide : 0 < limit) (l : Option ℕ) (nos : Nos) (acc o : List ℕ) where
     pub sending_passes : (radio : List Noise) (s : Sent) (fs : List Fate) (rest : List ℕ) (t : List Passing) (u : ProviderAnswer) (v : ReceiverAnswer)
         → Heard s nos → FatesOf (segments limit o) fs → length o ≤ length rest
         → ((t' : List Passing) (v' : ReceiverAnswer) → Adds nos.value t t' (div_ceil (length o) limit) 0 0
@@ -184,7 +184,7 @@ module _ (m : Transfer) where
   MeetsEach nos damaged good radio =
       (done left : List Noise) → done ++ left ≡ damaged → (k : ℕ) → k ≡ length done → Meets m nos.value k (left ++ (good ∷ radio))
 
-  module _ (wide : 0 < limit) (l : Length) (nos : Nos) (acc o : List ℕ) (is : octets_of (P m) m.file nos ≡ o) where
+  module _ (wide : 0 < limit) (l : Option ℕ) (nos : Nos) (acc o : List ℕ) (is : octets_of (P m) m.file nos ≡ o) where
     -- a damaged sending passes: nothing is kept of it, and the next one begins
     damaged_one : (radio : List Noise) (x : Noise) (s : Sent) (rest : List ℕ) (t : List Passing) (u : ProviderAnswer) (v : ReceiverAnswer)
         → ((k : ℕ) → k ≡ sendings_before nos.value t → Meets m nos.value k radio) → Heard s nos → Damaged limit o x → length o ≤ length rest

@@ -8,6 +8,7 @@ use native.Mathlib.Omega.{arith}
 use lib.Dec.{leb}
 use lib.ListN.{length, drop, length-append}
 use borrow.Author.Tests.{le-leb, eq-eqb}
+use Rattle.std.specs.Prelude.{Option}
 use Rattle.laws.specs.When.{when}
 use Rattle.asdu.specs.Sizes.{segment_limit}
 use Rattle.asdu.specs.Elements.{los_in_range}
@@ -25,7 +26,6 @@ use Rattle.requests.specs.declared.ProviderAnswer.TheVariants as PA
 use Rattle.provide.proofs.Building.{limit_most}
 use Rattle.receive.specs.Record.{frame_of}
 use Rattle.receive.specs.Answers.{on_answered, to_send}
-use Rattle.receive.specs.declared.Length.{Length}
 use Rattle.receive.specs.declared.Sent.{Sent}
 use Rattle.receive.specs.declared.Sent.TheVariants as S
 use Rattle.receive.specs.declared.ReceiverAnswer.{ReceiverAnswer}
@@ -73,7 +73,7 @@ module _ (m : Transfer) where
       × Along k e × Transferred m (run m.file m.headers k e)
 
   -- an exchange under way: the store is what is accepted, what is under way, and the rest; t was passed
-  abbrev pub Ex : List Passing → Sent → Length → List ℕ → List ℕ → List ℕ → List Noise → List Passing → ProviderAnswer → ReceiverAnswer → Exchange
+  abbrev pub Ex : List Passing → Sent → Option ℕ → List ℕ → List ℕ → List ℕ → List Noise → List Passing → ProviderAnswer → ReceiverAnswer → Exchange
   Ex q s l acc sec rest radio t u v =
       record {
         queue = q;
@@ -122,7 +122,7 @@ module _ (m : Transfer) where
   )
 
   -- each step, with the sendings of section n that its frame asks for
-  module _ (n : ℕ) (s : Sent) (l : Length) (acc sec rest : List ℕ) where
+  module _ (n : ℕ) (s : Sent) (l : Option ℕ) (acc sec rest : List ℕ) where
     room : length acc + length sec ≤ length (acc ++ (sec ++ rest))
     room = simp length-append (omega arith)
 

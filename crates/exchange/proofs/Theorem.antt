@@ -7,6 +7,7 @@ use native.Mathlib.Omega.{arith}
 use native.Mathlib.Nat.{zero-mul}
 use lib.ListN.{length}
 use borrow.Author.Tests.{le-leb, eq-eqb}
+use Rattle.std.specs.Prelude.{None, Some}
 use Rattle.laws.specs.When.{when}
 use Rattle.lists.specs.Parts.{parts}
 use Rattle.asdu.specs.declared.Nos.{Nos}
@@ -23,7 +24,6 @@ use Rattle.sections.proofs.SectionLaws.{some_section}
 use Rattle.receive.specs.Record.{awaited}
 use Rattle.receive.specs.Answers.{on_file_ready, to_send}
 use Rattle.receive.specs.declared.Sent.TheVariants as S
-use Rattle.receive.specs.declared.Length.TheVariants.{Unknown, Known}
 use Rattle.receive.specs.declared.ReceiverAnswer.TheVariants as Ra
 use Rattle.exchange.specs.Exchange.{Exchange, begun}
 use Rattle.exchange.specs.Transfer.{Transfer, Transferred, TwoPartyTransfer, DamagedThenIntact, in_order, sending_frames, damaged_sendings, provider_frames, receiver_frames, exchanged}
@@ -53,14 +53,14 @@ module _ (m : Transfer) where
       → DamagedThenIntact (limit m) (parts (suc c) (size m) m.file) m.radio
       → 2 + suc c + sending_frames (limit m) (parts (suc c) (size m) m.file) m.radio ≡ provider_frames m
       → 3 + 2 * suc c + damaged_sendings m.radio ≡ receiver_frames m
-      → Ends m (Ex m (ask m (sc m 1 none) ∷ []) (sc m 1 none) Unknown [] [] m.store (in_order m.radio) [] (PA.Running Nothing) Ra.Send)
+      → Ends m (Ex m (ask m (sc m 1 none) ∷ []) (sc m 1 none) None [] [] m.store (in_order m.radio) [] (PA.Running Nothing) Ra.Send)
   unfolding on_file_ready Pass to_send awaited when
   opens c e hit na mb =
-      asked_sc m 0 (sc m 1 none) Unknown [] [] m.store (in_order m.radio) [] _ _ none 1 FileReady 0 refl (selects_file (P m) none 0) tt (asks_none 0 (asking m (sc m 1 none)) refl)
-      (λ t₁ d₁. takes m 0 (sc m 1 none) Unknown [] [] m.store (in_order m.radio) t₁ _ _ (file_ready (P m)) []
-      (λ t'. Ex m (ask m (sc m 2 none) ∷ []) (sc m 2 none) (Known (length m.file)) [] [] m.store (in_order m.radio) t' (PA.Running FileReady) Ra.Send)
+      asked_sc m 0 (sc m 1 none) None [] [] m.store (in_order m.radio) [] _ _ none 1 FileReady 0 refl (selects_file (P m) none 0) tt (asks_none 0 (asking m (sc m 1 none)) refl)
+      (λ t₁ d₁. takes m 0 (sc m 1 none) None [] [] m.store (in_order m.radio) t₁ _ _ (file_ready (P m)) []
+      (λ t'. Ex m (ask m (sc m 2 none) ∷ []) (sc m 2 none) (Some (length m.file)) [] [] m.store (in_order m.radio) t' (PA.Running FileReady) Ra.Send)
       refl refl (simp (le-leb (length m.file) 0xFFFFFF (short m))) (offers _) refl
-      (λ t₂ d₂. asked_sc m 0 (sc m 2 none) (Known (length m.file)) [] [] m.store (in_order m.radio) t₂ _ _ none 2 (SectionReady (number m 0)) 0 refl (requests_file (P m) none 0) tt (asks_none 0 (asking m (sc m 2 none)) refl)
+      (λ t₂ d₂. asked_sc m 0 (sc m 2 none) (Some (length m.file)) [] [] m.store (in_order m.radio) t₂ _ _ none 2 (SectionReady (number m 0)) 0 refl (requests_file (P m) none 0) tt (asks_none 0 (asking m (sc m 2 none)) refl)
       (λ t₃ d₃. sections_pass m fits c 0 m.radio [] m.file m.store t₃ _ _ (sc m 2 none)
       refl (omega arith) (rw zero-mul) refl m.room refl (omega arith) awaits_first hit (omega arith) (omega arith))))
 
@@ -68,12 +68,12 @@ module _ (m : Transfer) where
       → DamagedThenIntact (limit m) (parts c (size m) m.file) m.radio
       → 2 + c + sending_frames (limit m) (parts c (size m) m.file) m.radio ≡ provider_frames m
       → 3 + 2 * c + damaged_sendings m.radio ≡ receiver_frames m
-      → Ends m (begun (P m) (R m S.Nothing Unknown 0 0) m.store (in_order m.radio))
+      → Ends m (begun (P m) (R m S.Nothing None 0 0) m.store (in_order m.radio))
   unfolding to_send awaited when
   begins zero e hit na mb = absurd (omega (arith, some_section (length m.file)))
   begins (suc c) e hit na mb = rw (starts m) (opens c e hit na mb)
 
-  made : begun (P m) (R m S.Nothing Unknown 0 0) m.store (in_order m.radio) ≡ begun m.provider m.receiver m.store (in_order m.radio)
+  made : begun (P m) (R m S.Nothing None 0 0) m.store (in_order m.radio) ≡ begun m.provider m.receiver m.store (in_order m.radio)
   made = rw (provider_fresh m, receiver_fresh m)
 
   pub all_pass : Ends m (begun m.provider m.receiver m.store (in_order m.radio))

@@ -1,9 +1,8 @@
 -- The exchange (document 01): one Provider, one Receiver, a queue of frames between them, and a radio that hits segments.
-use Rattle.std.specs.Prelude.{ℕ, zero, suc, ◌+◌, Bool, true, false, List, [], ◌∷◌, ◌++◌, map, eqb}
+use Rattle.std.specs.Prelude.{ℕ, zero, suc, ◌+◌, Bool, true, false, List, [], ◌∷◌, ◌++◌, map, eqb, Option, Some, None}
 use Rattle.laws.specs.When.{when}
 use Rattle.asdu.specs.Codes.{F_SG_NA_1}
 use Rattle.asdu.specs.declared.Header.{Header}
-use Rattle.asdu.specs.declared.UnknownField.TheVariants as U
 use Rattle.frame.specs.Frames.{type_of}
 use Rattle.ft.specs.Building.{header_of}
 use Rattle.ft.specs.declared.Received.TheVariants as D
@@ -18,10 +17,9 @@ use Rattle.provide.specs.Requests.{provide}
 use Rattle.receive.specs.declared.Receiver.{Receiver}
 use Rattle.receive.specs.declared.ReceiverAnswer.{ReceiverAnswer}
 use Rattle.receive.specs.declared.ReceiverStep.{ReceiverStep}
-use Rattle.receive.specs.declared.ToSend.{ToSend}
-use Rattle.receive.specs.declared.ToSend.TheVariants as T
 use Rattle.receive.specs.Record.{started}
 use Rattle.receive.specs.Answers.{Outcome, receive, to_send}
+use Rattle.frame.specs.declared.Frame.{Frame}
 
 -- ---- a frame on its way
 
@@ -53,9 +51,9 @@ provider_sends p file (P.FileRejected q) = []
 provider_sends p file (P.Refused cause mirror) = []
 provider_sends p file (P.Err e) = []
 
-abbrev pub packets_of : ToSend → List Packet
-packets_of T.Nothing = []
-packets_of (T.Frame f) = bare f ∷ []
+abbrev pub packets_of : Option Frame → List Packet
+packets_of None = []
+packets_of (Some f) = bare f ∷ []
 
 abbrev pub receiver_sends : ReceiverStep → List Packet
 receiver_sends s = packets_of (to_send s)
@@ -171,8 +169,8 @@ missed e x rest =
 
 -- the other machine is handed the frame with what arrives beside it, and knows all of its fields
 abbrev pub handed : List ℕ → Header → Exchange → Passing → List Passing → List ℕ → Side → Exchange
-handed file h e x rest beside by_receiver = provided file e x rest (provide e.provider file h U.Nothing (D.Frame x.packet.frame) beside)
-handed file h e x rest beside by_provider = taken e x rest (receive e.receiver e.store h U.Nothing (D.Frame x.packet.frame) beside)
+handed file h e x rest beside by_receiver = provided file e x rest (provide e.provider file h None (D.Frame x.packet.frame) beside)
+handed file h e x rest beside by_provider = taken e x rest (receive e.receiver e.store h None (D.Frame x.packet.frame) beside)
 
 abbrev pub passes : List ℕ → Header → Exchange → Passing → List Passing → Fate → Exchange
 passes file h e x rest lost = missed e x rest

@@ -1,8 +1,7 @@
 -- The order of the sendings (document 01, The exchange and A transfer script): where the k-th sending of a section begins, the noise that it meets is the section's k-th.
-use Rattle.std.specs.Prelude.{ℕ, ◌+◌, ◌-◌, ◌≡◌, Bool, false, List, [], ◌∷◌, ◌++◌, eqb, drop}
+use Rattle.std.specs.Prelude.{ℕ, ◌+◌, ◌-◌, ◌≡◌, Bool, false, List, [], ◌∷◌, ◌++◌, eqb, drop, None}
 use Rattle.laws.specs.When.{when, ◌and◌}
 use Rattle.asdu.specs.Codes.{REQUEST_SECTION, SECTION_NEGATIVE}
-use Rattle.asdu.specs.declared.UnknownField.TheVariants as U
 use Rattle.frame.specs.declared.Frame.{Frame}
 use Rattle.frame.specs.declared.Frame.TheVariants as F
 use Rattle.ft.specs.declared.Received.TheVariants as D
@@ -74,7 +73,7 @@ abbrev pub HandedInOrder : Transfer → Exchange → Passing → Fate → Side �
 HandedInOrder m e x lost side = Unit {0}
 HandedInOrder m e x (arrives beside) by_provider = Unit {0}
 HandedInOrder m e x (arrives beside) by_receiver =
-    AnswersInOrder m e.passed e.radio (provide e.provider m.file (m.headers e.passed x) U.Nothing (D.Frame x.packet.frame) beside).answer
+    AnswersInOrder m e.passed e.radio (provide e.provider m.file (m.headers e.passed x) None (D.Frame x.packet.frame) beside).answer
 
 abbrev pub QueueInOrder : Transfer → Exchange → List Passing → Type 0
 QueueInOrder m e [] = Unit {0}

@@ -1,5 +1,5 @@
 -- Demand 3, the two-party result (document 01, The exchange): whatever the radio damages, both machines complete, the Receiver with exactly the Provider's file.
-use Rattle.std.specs.Prelude.{ℕ, ◌+◌, ◌*◌, ◌≤◌, ◌<◌, ◌≡◌, ◌≢◌, true, false, List, [], ◌∷◌, ◌++◌, length, drop}
+use Rattle.std.specs.Prelude.{ℕ, ◌+◌, ◌*◌, ◌≤◌, ◌<◌, ◌≡◌, ◌≢◌, true, false, List, [], ◌∷◌, ◌++◌, length, drop, Some, Ok}
 use Rattle.lists.specs.Parts.{div_ceil}
 use Rattle.asdu.specs.Sizes.{segment_limit, max_common_address}
 use Rattle.asdu.specs.declared.Nof.{Nof}
@@ -13,14 +13,11 @@ use Rattle.ft.specs.declared.FileTransferProcedure.{FileTransferProcedure}
 use Rattle.sections.specs.Sections.{sections, segments, section_count}
 use Rattle.provide.specs.Record.{provider_made, ended}
 use Rattle.provide.specs.declared.Provider.{Provider}
-use Rattle.provide.specs.declared.ProviderResult.TheVariants as PM
 use Rattle.requests.specs.declared.ProviderAnswer.TheVariants as P
 use Rattle.receive.specs.Record.{receiver_made, with_state}
 use Rattle.receive.specs.declared.Receiver.{Receiver}
-use Rattle.receive.specs.declared.ReceiverResult.TheVariants as RM
 use Rattle.receive.specs.declared.Sent.{Sent}
 use Rattle.receive.specs.declared.Sent.TheVariants as S
-use Rattle.receive.specs.declared.Length.TheVariants.{Known}
 use Rattle.receive.specs.declared.ReceiverAnswer.TheVariants as R
 use Rattle.exchange.specs.Exchange.{Side, by_provider, by_receiver, Passing, Fate, lost, arrives, Noise, Exchange, Headers, run, begun, sent_by}
 
@@ -100,9 +97,9 @@ pub record Transfer : Type 0 where
   pub store : List ℕ
   -- both makings accept: every width, every file of 0 to 16,777,215 octets
   pub provider : Provider
-  pub provider_is_made : provider_made provider_station object name (length file) ≡ PM.Ok provider
+  pub provider_is_made : provider_made provider_station object name (length file) ≡ Ok provider
   pub receiver : Receiver
-  pub receiver_is_made : receiver_made receiver_station object name ≡ RM.Ok receiver
+  pub receiver_is_made : receiver_made receiver_station object name ≡ Ok receiver
   -- the stations have opposite roles
   pub roles : receiver_station.role ≡ other_role provider_station.role
   -- and the same widths
@@ -165,7 +162,7 @@ pub record Transferred (m : Transfer) (e : Exchange) : Type 0 where
   pub provider_ended : e.provider ≡ ended m.provider
   -- the Receiver names the file's length, and ended holding it
   pub receiver_complete : e.receiver_said ≡ R.Complete (length m.file)
-  pub receiver_ended : e.receiver ≡ with_state m.receiver (accepted m) (Known (length m.file)) (length m.file) 0 true
+  pub receiver_ended : e.receiver ≡ with_state m.receiver (accepted m) (Some (length m.file)) (length m.file) 0 true
   -- the store begins with the file, and behind it is as it was
   pub stored : e.store ≡ m.file ++ drop (length m.file) m.store
   -- the frames passed, counted for each sender

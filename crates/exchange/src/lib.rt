@@ -2,7 +2,7 @@
 #![tactic(auto)]
 
 // Whose frame passes.
-#[derive(Clone, Copy)]
+#[derive(Clone, Copy, PartialEq, Eq)]
 pub enum Sender {
     Provider,
     Receiver,

@@ -1,13 +1,14 @@
 -- What a program in C or Rust gives a run and gets of it, as numbers.
-use Rattle.std.specs.Prelude.{ℕ, Bool, true, false, List}
+use Rattle.std.specs.Prelude.{ℕ, Bool, true, false, List, Result, Ok, Err}
 use Rattle.asdu.specs.Number.{number_of}
 use Rattle.ft.specs.declared.Role.{Role}
 use Rattle.ft.specs.declared.Role.TheVariants.{Controlling, Controlled}
 use Rattle.twoparty.specs.declared.Settings.{Settings}
 use Rattle.run.specs.Loop.{Ran}
 use Rattle.run.specs.Run.{two_party}
-use Rattle.run.specs.declared.RunResult.{RunResult}
-use Rattle.run.specs.declared.RunResult.TheVariants.{Whole, Spent, Err}
+use Rattle.run.specs.declared.Ending.{Ending}
+use Rattle.run.specs.declared.Ending.TheVariants.{Whole, Spent}
+use Rattle.asdu.specs.declared.FtError.{FtError}
 
 abbrev pub role_of : Bool → Role
 role_of true = Controlling
@@ -29,13 +30,13 @@ abbrev pub run_of : ℕ → ℕ → ℕ → ℕ → ℕ → ℕ → Bool → Lis
 run_of cause common object ca ioa nof controlling file damage store budget = two_party (settings_of cause common object ca ioa nof controlling) file damage store budget
 
 -- 0 for a whole run, 255 for a spent one, else document 01's number
-abbrev pub end_number : RunResult → ℕ
-end_number (Whole length frames) = 0
-end_number (Spent frames) = 255
+abbrev pub end_number : Result Ending FtError → ℕ
+end_number (Ok (Whole length frames)) = 0
+end_number (Ok (Spent frames)) = 255
 end_number (Err e) = number_of e
 
 -- the frames that passed; none of a refused run
-abbrev pub end_frames : RunResult → ℕ
-end_frames (Whole length frames) = frames
-end_frames (Spent frames) = frames
+abbrev pub end_frames : Result Ending FtError → ℕ
+end_frames (Ok (Whole length frames)) = frames
+end_frames (Ok (Spent frames)) = frames
 end_frames (Err e) = 0

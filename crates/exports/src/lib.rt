@@ -1,14 +1,15 @@
-// What programs in C and Rust may call, on numbers and slices. Each function is proved and total like every
-// public entry. `exports_c` is the static library that gives these functions their names in C.
+// What programs in C and Rust may call, on numbers and slices, as the C interface has them. Each function is
+// proved and total like every public entry. `exports_c` is the static library that gives these functions their
+// names in C.
 #![tactic(auto)]
 
 ghost use Rattle.std.specs.Prelude.{◌≡◌};
 ghost use Rattle.checksum.specs.Checksum.{sum_after};
 ghost use Rattle.exports.specs.Exported.{role_of, settings_of, run_of, end_number, end_frames};
 
-use asdu::{AddressSizes, Nof};
+use asdu::{AddressSizes, FtError, Nof};
 use ft::Role;
-use run::RunResult;
+use run::Ending;
 use twoparty::Settings;
 
 // What a run answers whose budget is spent: no refusal has this number.
@@ -18,9 +19,10 @@ fn role_of(controlling: bool) -> Role
     ensures { result ≡ role_of controlling }
 {
     if controlling {
-        return Role::Controlling;
+        Role::Controlling
+    } else {
+        Role::Controlled
     }
-    Role::Controlled
 }
 
 fn settings(
@@ -34,7 +36,6 @@ fn settings(
 ) -> Settings
     ensures { result ≡ settings_of cause_octets common_address_octets information_object_address_octets common_address ioa nof controlling }
 {
-    let role = role_of(controlling);
     Settings {
         sizes: AddressSizes {
             cause_octets,
@@ -44,29 +45,28 @@ fn settings(
         common_address,
         ioa,
         nof: Nof { value: nof },
-        role,
+        role: role_of(controlling),
     }
 }
 
 // How a run ended, as a number.
-fn end_number(res: RunResult) -> u8
+fn end_number(res: Result<Ending, FtError>) -> u8
     ensures { result ≡ end_number res }
 {
     match res {
-        RunResult::Whole { .. } => 0,
-        RunResult::Spent { .. } => SPENT,
-        RunResult::Err(error) => error.number(),
+        Ok(Ending::Whole { .. }) => 0,
+        Ok(Ending::Spent { .. }) => SPENT,
+        Err(error) => error.number(),
     }
 }
 
 // How many frames passed.
-fn end_frames(res: RunResult) -> usize
+fn end_frames(res: Result<Ending, FtError>) -> usize
     ensures { result ≡ end_frames res }
 {
     match res {
-        RunResult::Whole { frames, .. } => frames,
-        RunResult::Spent { frames } => frames,
-        RunResult::Err(_) => 0,
+        Ok(Ending::Whole { frames, .. } | Ending::Spent { frames }) => frames,
+        Err(_) => 0,
     }
 }
 

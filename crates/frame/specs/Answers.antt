@@ -1,5 +1,5 @@
 -- Which frame answers which: IEC 60870-5-101, 7.4.11, with 60870-5-104, 7.11, and for the query of a log 8.9.
-use Rattle.std.specs.Prelude.{ℕ, Bool, true, false, eqb}
+use Rattle.std.specs.Prelude.{ℕ, Bool, true, false, eqb, Option, Some, None}
 use Rattle.laws.specs.When.{when, ◌and◌, ◌or◌}
 use Rattle.asdu.specs.Codes.{F_FR_NA_1, F_SR_NA_1, F_LS_NA_1, F_SG_NA_1, F_DR_TA_1, CALL_DIRECTORY, SELECT_FILE, REQUEST_FILE, SELECT_SECTION, REQUEST_SECTION, SECTION_POSITIVE, SECTION_NEGATIVE}
 use Rattle.asdu.specs.declared.Scq.{Scq}
@@ -7,58 +7,56 @@ use Rattle.asdu.specs.declared.Nos.{Nos}
 use Rattle.frame.specs.Frames.{ioa_of, type_of}
 use Rattle.frame.specs.declared.Frame.{Frame}
 use Rattle.frame.specs.declared.Frame.TheVariants.{FileReady, SectionReady, Sc, LastSection, Ack, Segment, Directory, QueryLog}
-use Rattle.frame.specs.declared.SomeNof.{SomeNof}
-use Rattle.frame.specs.declared.SomeNof.TheVariants as N
-use Rattle.frame.specs.declared.SomeNos.{SomeNos}
-use Rattle.frame.specs.declared.SomeNos.TheVariants as S
+use Rattle.asdu.specs.declared.Nof.{Nof}
 
 -- ---- names
 
 -- a directory has a name of file for each entry and none of its own
-abbrev pub nof_of : Frame → SomeNof
-nof_of (FileReady ioa nof lof frq) = N.Some nof
-nof_of (SectionReady ioa nof nos lof srq) = N.Some nof
-nof_of (Sc ioa nof nos scq) = N.Some nof
-nof_of (LastSection ioa nof nos lsq chs) = N.Some nof
-nof_of (Ack ioa nof nos afq) = N.Some nof
-nof_of (Segment ioa nof nos los) = N.Some nof
-nof_of (Directory ioa cause) = N.None
-nof_of (QueryLog ioa nof start stop) = N.Some nof
+abbrev pub nof_of : Frame → Option Nof
+nof_of (FileReady ioa nof lof frq) = Some nof
+nof_of (SectionReady ioa nof nos lof srq) = Some nof
+nof_of (Sc ioa nof nos scq) = Some nof
+nof_of (LastSection ioa nof nos lsq chs) = Some nof
+nof_of (Ack ioa nof nos afq) = Some nof
+nof_of (Segment ioa nof nos los) = Some nof
+nof_of (Directory ioa cause) = None
+nof_of (QueryLog ioa nof start stop) = Some nof
 
-abbrev pub nos_of : Frame → SomeNos
-nos_of (FileReady ioa nof lof frq) = S.None
-nos_of (SectionReady ioa nof nos lof srq) = S.Some nos
-nos_of (Sc ioa nof nos scq) = S.Some nos
-nos_of (LastSection ioa nof nos lsq chs) = S.Some nos
-nos_of (Ack ioa nof nos afq) = S.Some nos
-nos_of (Segment ioa nof nos los) = S.Some nos
-nos_of (Directory ioa cause) = S.None
-nos_of (QueryLog ioa nof start stop) = S.None
+abbrev pub nos_of : Frame → Option Nos
+nos_of (FileReady ioa nof lof frq) = None
+nos_of (SectionReady ioa nof nos lof srq) = Some nos
+nos_of (Sc ioa nof nos scq) = Some nos
+nos_of (LastSection ioa nof nos lsq chs) = Some nos
+nos_of (Ack ioa nof nos afq) = Some nos
+nos_of (Segment ioa nof nos los) = Some nos
+nos_of (Directory ioa cause) = None
+nos_of (QueryLog ioa nof start stop) = None
 
 -- the section that a request names: a request for a section alone asks for one by its name
-unfoldable pub called_section : Nos → Scq → SomeNos
-called_section nos q = when (eqb q.action REQUEST_SECTION) (S.Some nos) S.None
+unfoldable pub called_section : Nos → Scq → Option Nos
+called_section nos q = when (eqb q.action REQUEST_SECTION) (Some nos) None
 
-abbrev pub requested_section : Frame → SomeNos
-requested_section (FileReady ioa nof lof frq) = S.None
-requested_section (SectionReady ioa nof nos lof srq) = S.None
+abbrev pub requested_section : Frame → Option Nos
+requested_section (FileReady ioa nof lof frq) = None
+requested_section (SectionReady ioa nof nos lof srq) = None
 requested_section (Sc ioa nof nos scq) = called_section nos scq
-requested_section (LastSection ioa nof nos lsq chs) = S.None
-requested_section (Ack ioa nof nos afq) = S.None
-requested_section (Segment ioa nof nos los) = S.None
-requested_section (Directory ioa cause) = S.None
-requested_section (QueryLog ioa nof start stop) = S.None
+requested_section (LastSection ioa nof nos lsq chs) = None
+requested_section (Ack ioa nof nos afq) = None
+requested_section (Segment ioa nof nos los) = None
+requested_section (Directory ioa cause) = None
+requested_section (QueryLog ioa nof start stop) = None
 
--- two names agree where one of them is missing, or they are equal
-abbrev pub nof_agree : SomeNof → SomeNof → Bool
-nof_agree (N.Some x) (N.Some y) = eqb x.value y.value
-nof_agree (N.Some x) N.None = true
-nof_agree N.None b = true
+-- two names agree where one of them is missing, or they are the same
+abbrev pub agree : {A : Type 0} → (A → A → Bool) → Option A → Option A → Bool
+agree same (Some x) (Some y) = same x y
+agree same (Some x) None = true
+agree same None b = true
 
-abbrev pub nos_agree : SomeNos → SomeNos → Bool
-nos_agree (S.Some x) (S.Some y) = eqb x.value y.value
-nos_agree (S.Some x) S.None = true
-nos_agree S.None b = true
+abbrev pub nof_agree : Option Nof → Option Nof → Bool
+nof_agree a b = agree (λ x y. eqb x.value y.value) a b
+
+abbrev pub nos_agree : Option Nos → Option Nos → Bool
+nos_agree a b = agree (λ x y. eqb x.value y.value) a b
 
 -- ---- kinds
 

@@ -11,21 +11,7 @@ ghost use Rattle.frame.specs.Frames.{type_of, cause_of, receiver_side, ioa_of, i
 
 use asdu::{Afq, Cause, Chs, Cp56Time2a, Frq, Lof, Los, Lsq, Nof, Nos, Scq, Srq, TypeId};
 
-// A name of file, where a frame has one.
-#[derive(Clone, Copy)]
-pub enum SomeNof {
-    Some(Nof),
-    None,
-}
-
-// A name of section, where a frame has one.
-#[derive(Clone, Copy)]
-pub enum SomeNos {
-    Some(Nos),
-    None,
-}
-
-#[derive(Clone, Copy)]
+#[derive(Clone, Copy, PartialEq, Eq)]
 pub enum Frame {
     // 120: a file is ready, or is refused.
     FileReady {
@@ -110,12 +96,14 @@ impl Frame {
         match self {
             Frame::Sc { scq, .. } => sc_cause(scq),
             Frame::Directory { cause, .. } => cause,
-            Frame::FileReady { .. } => file_transfer(),
-            Frame::SectionReady { .. } => file_transfer(),
-            Frame::LastSection { .. } => file_transfer(),
-            Frame::Ack { .. } => file_transfer(),
-            Frame::Segment { .. } => file_transfer(),
-            Frame::QueryLog { .. } => file_transfer(),
+            Frame::FileReady { .. }
+            | Frame::SectionReady { .. }
+            | Frame::LastSection { .. }
+            | Frame::Ack { .. }
+            | Frame::Segment { .. }
+            | Frame::QueryLog { .. } => Cause {
+                value: Cause::FILE_TRANSFER,
+            },
         }
     }
 
@@ -123,16 +111,10 @@ impl Frame {
     pub fn is_receiver_side(self) -> bool
         ensures { result ≡ receiver_side self }
     {
-        match self {
-            Frame::Sc { .. } => true,
-            Frame::Ack { .. } => true,
-            Frame::QueryLog { .. } => true,
-            Frame::FileReady { .. } => false,
-            Frame::SectionReady { .. } => false,
-            Frame::LastSection { .. } => false,
-            Frame::Segment { .. } => false,
-            Frame::Directory { .. } => false,
-        }
+        matches!(
+            self,
+            Frame::Sc { .. } | Frame::Ack { .. } | Frame::QueryLog { .. }
+        )
     }
 
     // The object address.
@@ -140,56 +122,46 @@ impl Frame {
         ensures { result ≡ ioa_of self }
     {
         match self {
-            Frame::FileReady { ioa, .. } => ioa,
-            Frame::SectionReady { ioa, .. } => ioa,
-            Frame::Sc { ioa, .. } => ioa,
-            Frame::LastSection { ioa, .. } => ioa,
-            Frame::Ack { ioa, .. } => ioa,
-            Frame::Segment { ioa, .. } => ioa,
-            Frame::Directory { ioa, .. } => ioa,
-            Frame::QueryLog { ioa, .. } => ioa,
+            Frame::FileReady { ioa, .. }
+            | Frame::SectionReady { ioa, .. }
+            | Frame::Sc { ioa, .. }
+            | Frame::LastSection { ioa, .. }
+            | Frame::Ack { ioa, .. }
+            | Frame::Segment { ioa, .. }
+            | Frame::Directory { ioa, .. }
+            | Frame::QueryLog { ioa, .. } => ioa,
         }
     }
 }
 
-fn file_transfer() -> Cause
-    ensures { result ≡ record { value = 13 } }
-{
-    Cause {
-        value: Cause::FILE_TRANSFER,
-    }
-}
-
+// A request for a directory goes with the cause of a request.
+#[tactic(auto, using(laws::proofs::Decide::decide), unfolding(crate::specs::Frames::sc_cause))]
 fn sc_cause(scq: Scq) -> Cause
     ensures { result ≡ sc_cause scq }
 {
-    let action = scq.action;
-    if action == Scq::CALL_DIRECTORY {
-        return Cause {
-            value: Cause::REQUEST,
-        };
-    }
-    file_transfer()
+    let value = if scq.action == Scq::CALL_DIRECTORY {
+        Cause::REQUEST
+    } else {
+        Cause::FILE_TRANSFER
+    };
+    Cause { value }
 }
 
 // Whether a type is one of the eight.
+#[tactic(auto, using(laws::proofs::Decide::decide), unfolding(crate::specs::Frames::is_file_type))]
 pub fn is_file_type(type_id: u8) -> bool
     ensures { result ≡ is_file_type type_id }
 {
-    if TypeId::F_FR_NA_1 <= type_id {
-        return type_id <= TypeId::F_SC_NB_1;
-    }
-    false
+    TypeId::F_FR_NA_1 <= type_id && type_id <= TypeId::F_SC_NB_1
 }
 
 // Whether frames of a type come from the receiving side: what a header alone can tell.
+#[tactic(auto, using(laws::proofs::Decide::decide), unfolding(crate::specs::Frames::receiver_side_type))]
 pub fn is_receiver_side_type(type_id: u8) -> bool
     ensures { result ≡ receiver_side_type type_id }
 {
-    match type_id {
-        TypeId::F_SC_NA_1 => true,
-        TypeId::F_AF_NA_1 => true,
-        TypeId::F_SC_NB_1 => true,
-        _ => false,
-    }
+    matches!(
+        type_id,
+        TypeId::F_SC_NA_1 | TypeId::F_AF_NA_1 | TypeId::F_SC_NB_1
+    )
 }

@@ -1,63 +1,39 @@
 // Whether every value of a frame, and what stands beside it, is within its element's range. The object
 // address is judged apart, by the width that the system gives it.
 ghost use Rattle.std.specs.Prelude.{◌≡◌, ◌-◌, ◌/◌, length};
-ghost use Rattle.laws.specs.When.{◌and◌};
 ghost use Rattle.asdu.specs.Entry.{entry_address};
 ghost use Rattle.frame.specs.Frames.{last_ioa};
-ghost use Rattle.frame.specs.Ranges.{segment_in_range, directory_cause, directory_in_range, values_in_range};
+ghost use Rattle.frame.specs.Ranges.{segment_in_range, directory_in_range, values_in_range};
 
 use crate::Frame;
 use asdu::{AddressSizes, Cause, DirectoryEntry, Los, entry, sizes};
 
-fn both(a: bool, b: bool) -> bool
-    ensures { result ≡ (a and b) }
-{
-    if a {
-        return b;
-    }
-    false
-}
-
 // A segment's length: that of its payload, which is no longer than the widths allow.
+#[tactic(auto, using(laws::proofs::Decide::decide), unfolding(crate::specs::Ranges::segment_in_range))]
 fn is_segment_in_range(sizes: AddressSizes, los: Los, payload: &[u8]) -> bool
     ensures { result ≡ segment_in_range sizes los payload.now }
 {
     let length = payload.len();
-    if los.is_in_range() {
-        if los.value as usize == length {
-            return length <= sizes::max_segment(sizes);
-        }
-    }
-    false
+    los.is_in_range() && usize::from(los.value) == length && length <= sizes::max_segment(sizes)
 }
 
 // A directory goes spontaneously or as requested.
-fn is_directory_cause(cause: Cause) -> bool
-    ensures { result ≡ directory_cause cause }
-{
-    if cause.value == Cause::SPONTANEOUS {
-        return true;
-    }
-    cause.value == Cause::REQUEST
-}
-
+#[tactic(auto, using(laws::proofs::Decide::decide), unfolding(crate::specs::Ranges::directory_in_range, crate::specs::Ranges::directory_cause))]
 fn is_directory_in_range(cause: Cause, entries: &[u8]) -> bool
     ensures { result ≡ directory_in_range cause entries.now }
 {
-    if is_directory_cause(cause) {
-        return entry::is_page(entries);
-    }
-    false
+    matches!(cause.value, Cause::SPONTANEOUS | Cause::REQUEST) && entry::is_page(entries)
 }
 
 // Whether every value of the frame is in range; `beside` is a segment's payload or a directory's
 // entries, and is not read for another kind.
+#[tactic(auto, using(laws::proofs::Decide::decide))]
 pub fn is_in_range(sizes: AddressSizes, frame: Frame, beside: &[u8]) -> bool
     ensures { result ≡ values_in_range sizes frame beside.now }
 {
     match frame {
-        Frame::FileReady { lof, frq, .. } => both(lof.is_in_range(), frq.is_in_range()),
-        Frame::SectionReady { lof, srq, .. } => both(lof.is_in_range(), srq.is_in_range()),
+        Frame::FileReady { lof, frq, .. } => lof.is_in_range() && frq.is_in_range(),
+        Frame::SectionReady { lof, srq, .. } => lof.is_in_range() && srq.is_in_range(),
         Frame::Sc { scq, .. } => scq.is_in_range(),
         Frame::LastSection { .. } => true,
         Frame::Ack { afq, .. } => afq.is_in_range(),
@@ -67,7 +43,7 @@ pub fn is_in_range(sizes: AddressSizes, frame: Frame, beside: &[u8]) -> bool
             range_start,
             range_stop,
             ..
-        } => both(range_start.is_in_range(), range_stop.is_in_range()),
+        } => range_start.is_in_range() && range_stop.is_in_range(),
     }
 }
 
@@ -76,10 +52,7 @@ fn last_entry(ioa: u32, entries: &[u8]) -> u32
     ensures { result ≡ entry_address ioa (length entries.now / 13 - 1) }
 {
     let count = entries.len() / DirectoryEntry::LEN;
-    if count < 1 {
-        return entry::entry_address(ioa, 0);
-    }
-    entry::entry_address(ioa, count - 1)
+    entry::entry_address(ioa, count.saturating_sub(1))
 }
 
 // The last of a frame's object addresses: a directory page's entries rise from its own.
@@ -87,13 +60,13 @@ pub fn last_ioa(frame: Frame, beside: &[u8]) -> u32
     ensures { result ≡ last_ioa frame beside.now }
 {
     match frame {
-        Frame::FileReady { ioa, .. } => ioa,
-        Frame::SectionReady { ioa, .. } => ioa,
-        Frame::Sc { ioa, .. } => ioa,
-        Frame::LastSection { ioa, .. } => ioa,
-        Frame::Ack { ioa, .. } => ioa,
-        Frame::Segment { ioa, .. } => ioa,
         Frame::Directory { ioa, .. } => last_entry(ioa, beside),
-        Frame::QueryLog { ioa, .. } => ioa,
+        Frame::FileReady { ioa, .. }
+        | Frame::SectionReady { ioa, .. }
+        | Frame::Sc { ioa, .. }
+        | Frame::LastSection { ioa, .. }
+        | Frame::Ack { ioa, .. }
+        | Frame::Segment { ioa, .. }
+        | Frame::QueryLog { ioa, .. } => ioa,
     }
 }

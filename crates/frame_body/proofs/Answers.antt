@@ -6,6 +6,7 @@ use mathlib.Core.List.{List}
 use native.Mathlib.Omega.{arith}
 use lib.ListN.{length}
 use borrow.Author.Tests.{leb-true, le-leb, lt-leb}
+use Rattle.std.specs.Prelude.{Err, Ok, Result}
 use Rattle.laws.specs.When.{when, unless, ◌and◌}
 use Rattle.laws.proofs.Decide.{whens, yes}
 use Rattle.store.specs.Store.{written}
@@ -16,13 +17,11 @@ use Rattle.frame.specs.Frames.{type_of}
 use Rattle.frame.specs.Ranges.{values_in_range}
 use Rattle.frame.specs.declared.Frame.{Frame}
 use Rattle.frame_body.specs.Body.{body_type, body_of, body_in_range, body_fits, write_answer, out_after}
-use Rattle.frame_body.specs.declared.WriteResult.{WriteResult}
-use Rattle.frame_body.specs.declared.WriteResult.TheVariants.{Ok, Err}
 use Rattle.frame_body.proofs.Bodies.{narrowest, range_same, in_range_any, body_most}
 
 module _ (f : Frame) (p out : List ℕ) where
   -- this is answered, and the buffer is then so
-  abbrev pub Told : WriteResult → List ℕ → Type 0
+  abbrev pub Told : Result ℕ FtError → List ℕ → Type 0
   Told answer after = (answer ≡ write_answer f p (length out)) × (after ≡ out_after f p out)
 
   pub told_unsupported : body_type (type_of f) ≡ false → Told (Err UnsupportedType) out

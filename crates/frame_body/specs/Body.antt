@@ -1,5 +1,5 @@
 -- The body of a frame: the octets behind its object address, element by element as IEC 60870-5-101, 7.3.6.1 to 7.3.6.6, figures 83 to 88, lay them out; and what writing it answers and leaves in the buffer (document 02, A8).
-use Rattle.std.specs.Prelude.{ℕ, Bool, true, false, List, [], ◌∷◌, ◌++◌, eqb, leb, length}
+use Rattle.std.specs.Prelude.{ℕ, Bool, true, false, List, [], ◌∷◌, ◌++◌, eqb, leb, length, Result, Ok, Err}
 use Rattle.laws.specs.When.{when, unless, ◌and◌}
 use Rattle.store.specs.Store.{written}
 use Rattle.asdu.specs.Codes.{F_FR_NA_1, F_SG_NA_1}
@@ -10,8 +10,7 @@ use Rattle.frame.specs.Frames.{type_of}
 use Rattle.frame.specs.declared.Frame.{Frame}
 use Rattle.frame.specs.declared.Frame.TheVariants.{FileReady, SectionReady, Sc, LastSection, Ack, Segment, Directory, QueryLog}
 use Rattle.frame_body.specs.Elements.{frq_octet, srq_octet, scq_octet, afq_octet}
-use Rattle.frame_body.specs.declared.WriteResult.{WriteResult}
-use Rattle.frame_body.specs.declared.WriteResult.TheVariants.{Ok, Err}
+use Rattle.asdu.specs.declared.FtError.{FtError}
 
 -- the types that have a body here: 120 to 125
 unfoldable pub body_type : ℕ → Bool
@@ -44,7 +43,7 @@ unfoldable pub body_fits : Frame → List ℕ → ℕ → Bool
 body_fits f payload len = leb (length (body_of f payload)) len
 
 -- 29 is tested first, then 4, then 30; where nothing is refused, how many octets are written
-unfoldable pub write_answer : Frame → List ℕ → ℕ → WriteResult
+unfoldable pub write_answer : Frame → List ℕ → ℕ → Result ℕ FtError
 write_answer f payload len =
     unless (body_type (type_of f)) (Err UnsupportedType)
     (unless (body_in_range f payload) (Err ValueOutOfRange)

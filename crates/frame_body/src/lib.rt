@@ -2,14 +2,14 @@
 // octets that stand behind the object address, laid out as IEC 60870-5-101, 7.3.6.1 to 7.3.6.6, has them.
 #![tactic(auto)]
 
-ghost use Rattle.std.specs.Prelude.{◌≡◌, true, [], ◌∷◌, ◌++◌, ◌+◌, ◌<◌, ◌≤◌, length};
+ghost use Rattle.std.specs.Prelude.{◌≡◌, true, [], ◌∷◌, ◌++◌, ◌+◌, ◌*◌, ◌≤◌, length};
 ghost use Rattle.store.specs.Store.{written};
-ghost use Rattle.asdu.specs.Entry.{nof_octets, lof_octets};
-ghost use Rattle.frame_body.specs.Elements.{frq_octet, srq_octet, scq_octet, afq_octet};
+ghost use Rattle.asdu.specs.Entry.{flag, nof_octets, lof_octets};
+ghost use Rattle.frame_body.specs.Elements.{frq_octet, srq_octet};
 ghost use Rattle.frame_body.specs.Body.{body_type, body_of, body_in_range, write_answer, out_after};
 
 use asdu::entry::weight_of;
-use asdu::{AddressSizes, Afq, Chs, Frq, FtError, Lof, Los, Lsq, Nof, Nos, Scq, Srq, TypeId};
+use asdu::{AddressSizes, Frq, FtError, Lof, Nof, Nos, Srq, TypeId};
 use frame::{Frame, range};
 
 // The most octets of a body: a segment's.
@@ -22,166 +22,117 @@ const NARROWEST: AddressSizes = AddressSizes {
     information_object_address_octets: 1,
 };
 
-// What writing a body answers: how many octets it has; or why nothing was written.
-#[derive(Clone, Copy)]
-pub enum WriteResult {
-    Ok(usize),
-    Err(FtError),
-}
-
 // ---- Elements
 
-// FRQ: the flag in bit 7, counted from 0.
-fn frq_octet(frq: Frq) -> u8
-    requires { frq.value ≤ 127 }
-    ensures { result ≡ frq_octet frq }
+// FRQ and SRQ: the value, and the flag above it in bit 7, counted from 0.
+fn qualifier_octet(value: u8, is_set: bool) -> u8
+    requires { value ≤ 127 }
+    ensures { result ≡ value + flag 128 is_set }
 {
-    frq.value + weight_of(128, frq.negative_confirm)
+    value + weight_of(128, is_set)
 }
 
-// SRQ: the same.
-fn srq_octet(srq: Srq) -> u8
-    requires { srq.value ≤ 127 }
-    ensures { result ≡ srq_octet srq }
+// SCQ and AFQ: the action in the low four bits, the error in the high four.
+fn action_octet(action: u8, error: u8) -> u8
+    requires { (action ≤ 15) × (error ≤ 15) }
+    ensures { result ≡ action + 16 * error }
 {
-    srq.value + weight_of(128, srq.not_ready)
-}
-
-// SCQ: the action in the low four bits, the error in the high four.
-fn scq_octet(scq: Scq) -> u8
-    requires { (scq.action ≤ 15) × (scq.error ≤ 15) }
-    ensures { result ≡ scq_octet scq }
-{
-    scq.action + 16 * scq.error
-}
-
-// AFQ: the same.
-fn afq_octet(afq: Afq) -> u8
-    requires { (afq.action ≤ 15) × (afq.error ≤ 15) }
-    ensures { result ≡ afq_octet afq }
-{
-    afq.action + 16 * afq.error
-}
-
-// Puts an octet at a place.
-fn put_octet(out: &mut [u8], place: usize, octet: u8)
-    requires { place < length out.old }
-    ensures { out.new ≡ written out.old place (octet ∷ []) }
-{
-    out[place] = octet;
-}
-
-// Puts a name of file in front, the lower octet first.
-fn put_nof(out: &mut [u8], nof: Nof)
-    requires { 2 ≤ length out.old }
-    ensures { out.new ≡ written out.old 0 (nof_octets nof) }
-{
-    let name = nof.value;
-    put_octet(out, 0, (name % 256) as u8);
-    put_octet(out, 1, (name / 256) as u8);
-}
-
-// Puts a length of file or section from a place on, the lowest octet first.
-fn put_lof(out: &mut [u8], place: usize, lof: Lof)
-    requires { (place + 3 ≤ length out.old) × (lof.value ≤ 0xFFFFFF) }
-    ensures { out.new ≡ written out.old place (lof_octets lof) }
-{
-    let length = lof.value;
-    put_octet(out, place, (length % 256) as u8);
-    put_octet(out, place + 1, (length / 256 % 256) as u8);
-    put_octet(out, place + 2, (length / 65536) as u8);
+    action + 16 * error
 }
 
 // ---- Bodies
 
 // 120: NOF, LOF, FRQ.
-fn put_file_ready(out: &mut [u8], nof: Nof, lof: Lof, frq: Frq)
-    requires { (6 ≤ length out.old) × (lof.value ≤ 0xFFFFFF) × (frq.value ≤ 127) }
-    ensures { out.new ≡ written out.old 0 (nof_octets nof ++ lof_octets lof ++ frq_octet frq ∷ []) }
+fn file_ready(nof: Nof, lof: Lof, frq: Frq) -> [u8; 6]
+    requires { (lof.value ≤ 0xFFFFFF) × (frq.value ≤ 127) }
+    ensures { result ≡ nof_octets nof ++ lof_octets lof ++ frq_octet frq ∷ [] }
 {
-    put_nof(out, nof);
-    put_lof(out, 2, lof);
-    put_octet(out, 5, frq_octet(frq));
+    let [name_low, name_high] = nof.value.to_le_bytes();
+    let [low, middle, high, _] = lof.value.to_le_bytes();
+    let frq = qualifier_octet(frq.value, frq.negative_confirm);
+    [name_low, name_high, low, middle, high, frq]
 }
 
 // 121: NOF, NOS, LOF, SRQ.
-fn put_section_ready(out: &mut [u8], nof: Nof, nos: Nos, lof: Lof, srq: Srq)
-    requires { (7 ≤ length out.old) × (lof.value ≤ 0xFFFFFF) × (srq.value ≤ 127) }
-    ensures { out.new ≡ written out.old 0 (nof_octets nof ++ nos.value ∷ lof_octets lof ++ srq_octet srq ∷ []) }
+fn section_ready(nof: Nof, nos: Nos, lof: Lof, srq: Srq) -> [u8; 7]
+    requires { (lof.value ≤ 0xFFFFFF) × (srq.value ≤ 127) }
+    ensures { result ≡ nof_octets nof ++ nos.value ∷ lof_octets lof ++ srq_octet srq ∷ [] }
 {
-    put_nof(out, nof);
-    put_octet(out, 2, nos.value);
-    put_lof(out, 3, lof);
-    put_octet(out, 6, srq_octet(srq));
+    let [name_low, name_high] = nof.value.to_le_bytes();
+    let [low, middle, high, _] = lof.value.to_le_bytes();
+    let srq = qualifier_octet(srq.value, srq.not_ready);
+    [name_low, name_high, nos.value, low, middle, high, srq]
 }
 
 // 122 and 124, and the front of 123 and 125: NOF, NOS and an octet.
-fn put_front(out: &mut [u8], nof: Nof, nos: Nos, octet: u8)
-    requires { 4 ≤ length out.old }
-    ensures { out.new ≡ written out.old 0 (nof_octets nof ++ nos.value ∷ octet ∷ []) }
+fn front(nof: Nof, nos: Nos, octet: u8) -> [u8; 4]
+    ensures { result ≡ nof_octets nof ++ nos.value ∷ octet ∷ [] }
 {
-    put_nof(out, nof);
-    put_octet(out, 2, nos.value);
-    put_octet(out, 3, octet);
+    let [low, high] = nof.value.to_le_bytes();
+    [low, high, nos.value, octet]
 }
 
-// 123: NOF, NOS, LSQ, CHS.
-fn put_last_section(out: &mut [u8], nof: Nof, nos: Nos, lsq: Lsq, chs: Chs)
-    requires { 5 ≤ length out.old }
-    ensures { out.new ≡ written out.old 0 (nof_octets nof ++ nos.value ∷ lsq.value ∷ chs.value ∷ []) }
+// Writes octets over the front of a buffer.
+#[tactic(auto, unfolding(store::specs::Store::written))]
+fn put(out: &mut [u8], octets: &[u8])
+    requires { length octets.now ≤ length out.old }
+    ensures { out.new ≡ written out.old 0 octets.now }
 {
-    put_front(out, nof, nos, lsq.value);
-    put_octet(out, 4, chs.value);
+    out[..octets.len()].copy_from_slice(octets);
 }
 
-// 125: NOF, NOS, LOS and the payload.
-fn put_segment(out: &mut [u8], nof: Nof, nos: Nos, los: Los, payload: &[u8])
-    requires { 4 + length payload.now ≤ length out.old }
-    ensures { out.new ≡ written out.old 0 (nof_octets nof ++ nos.value ∷ los.value ∷ payload.now) }
+// The same for four octets and those behind them.
+fn put_behind(out: &mut [u8], front: [u8; 4], rest: &[u8])
+    requires { 4 + length rest.now ≤ length out.old }
+    ensures { out.new ≡ written out.old 0 (front ++ rest.now) }
 {
-    put_front(out, nof, nos, los.value);
-    store::write_at(out, 4, 0, payload);
+    put(out, &front);
+    store::write_at(out, 4, 0, rest);
 }
 
-// Puts a frame's body over the front of a buffer that has room for it.
+// Writes a frame's body over the front of a buffer that has room for it.
 fn put_body(frame: Frame, payload: &[u8], out: &mut [u8])
     requires { (body_in_range frame payload.now ≡ true) × (length (body_of frame payload.now) ≤ length out.old) }
     ensures { out.new ≡ written out.old 0 (body_of frame payload.now) }
 {
     match frame {
-        Frame::FileReady { nof, lof, frq, .. } => put_file_ready(out, nof, lof, frq),
+        Frame::FileReady { nof, lof, frq, .. } => put(out, &file_ready(nof, lof, frq)),
         Frame::SectionReady {
             nof,
             nos,
             lof,
             srq,
             ..
-        } => put_section_ready(out, nof, nos, lof, srq),
-        Frame::Sc { nof, nos, scq, .. } => put_front(out, nof, nos, scq_octet(scq)),
+        } => put(out, &section_ready(nof, nos, lof, srq)),
+        Frame::Sc { nof, nos, scq, .. } => {
+            put(out, &front(nof, nos, action_octet(scq.action, scq.error)))
+        }
         Frame::LastSection {
             nof,
             nos,
             lsq,
             chs,
             ..
-        } => put_last_section(out, nof, nos, lsq, chs),
-        Frame::Ack { nof, nos, afq, .. } => put_front(out, nof, nos, afq_octet(afq)),
-        Frame::Segment { nof, nos, los, .. } => put_segment(out, nof, nos, los, payload),
-        Frame::Directory { .. } => {}
-        Frame::QueryLog { .. } => {}
+        } => put_behind(out, front(nof, nos, lsq.value), &[chs.value]),
+        Frame::Ack { nof, nos, afq, .. } => {
+            put(out, &front(nof, nos, action_octet(afq.action, afq.error)))
+        }
+        Frame::Segment { nof, nos, los, .. } => {
+            put_behind(out, front(nof, nos, los.value), payload)
+        }
+        // These have no body here.
+        Frame::Directory { .. } | Frame::QueryLog { .. } => {}
     }
 }
 
 // ---- Writing
 
 // Whether frames of a type have a body here.
+#[tactic(auto, using(laws::proofs::Decide::decide), unfolding(crate::specs::Body::body_type))]
 pub fn is_body_type(type_id: u8) -> bool
     ensures { result ≡ body_type type_id }
 {
-    if TypeId::F_FR_NA_1 <= type_id {
-        return type_id <= TypeId::F_SG_NA_1;
-    }
-    false
+    TypeId::F_FR_NA_1 <= type_id && type_id <= TypeId::F_SG_NA_1
 }
 
 // How many octets the body has.
@@ -191,30 +142,28 @@ fn body_len(frame: Frame, payload: &[u8]) -> usize
     match frame {
         Frame::FileReady { .. } => 6,
         Frame::SectionReady { .. } => 7,
-        Frame::Sc { .. } => 4,
+        Frame::Sc { .. } | Frame::Ack { .. } => 4,
         Frame::LastSection { .. } => 5,
-        Frame::Ack { .. } => 4,
         Frame::Segment { .. } => 4 + payload.len(),
-        Frame::Directory { .. } => 0,
-        Frame::QueryLog { .. } => 0,
+        Frame::Directory { .. } | Frame::QueryLog { .. } => 0,
     }
 }
 
 // Writes a frame's body over the front of a lent buffer, and answers how many octets it has. 29, then 4, then 30: a
 // refusal writes nothing. A payload beside another kind than a segment is not read.
-pub fn write(frame: Frame, payload: &[u8], out: &mut [u8]) -> WriteResult
+pub fn write(frame: Frame, payload: &[u8], out: &mut [u8]) -> Result<usize, FtError>
     ensures { (result ≡ write_answer frame payload.now (length out.old)) × (out.new ≡ out_after frame payload.now out.old) }
 {
     if !is_body_type(frame.type_id()) {
-        return WriteResult::Err(FtError::UnsupportedType);
+        return Err(FtError::UnsupportedType);
     }
     if !range::is_in_range(NARROWEST, frame, payload) {
-        return WriteResult::Err(FtError::ValueOutOfRange);
+        return Err(FtError::ValueOutOfRange);
     }
     let length = body_len(frame, payload);
     if out.len() < length {
-        return WriteResult::Err(FtError::BufferTooShort);
+        return Err(FtError::BufferTooShort);
     }
     put_body(frame, payload, out);
-    WriteResult::Ok(length)
+    Ok(length)
 }

@@ -1,220 +1,129 @@
 // Calls of the elements, the widths, the packed entry, the header's causes and the checksum.
 use asdu::{
-    AddressSizes, Cp56Time2a, DirectoryEntry, EntryResult, Lof, Los, Nof, Nos, Packed, Scq,
-    SizesResult, Sof, entry, headers, sizes,
+    AddressSizes, Afq, Cp56Time2a, DirectoryEntry, Frq, Lof, Los, Nof, Nos, Scq, Sof, Srq,
+    Unspecified, entry, headers, sizes,
 };
-use checksum::ChecksumResult;
-use values::{make, show};
-use words::{Numbers, Octets, read, text, u8_at, u32_at, write};
+use shown::numbers::Behind;
+use shown::{Shown, answer, answer_word};
+use std::fmt;
+use words::numbers::{Blank, Octets};
+use words::{Answered, Unanswered, Words};
 
-fn is_los_in_range(value: u8) -> bool {
-    let los = Los { value };
-    los.is_in_range()
-}
+// ---- Widths
 
-// Whether an element is in range.
-fn is_in_range(which: u8, args: &Numbers) -> bool {
-    match which {
-        0 => make::frq(args, 0).is_in_range(),
-        1 => make::srq(args, 0).is_in_range(),
-        2 => make::scq(args, 0).is_in_range(),
-        3 => make::afq(args, 0).is_in_range(),
-        4 => make::lof(args, 0).is_in_range(),
-        5 => make::sof(args, 0).is_in_range(),
-        6 => make::time(args, 0).is_in_range(),
-        7 => make::entry(args, 0).is_in_range(),
-        _ => is_los_in_range(u8_at(args, 0, 0)),
-    }
-}
-
-fn is_mirror(args: &Numbers) -> bool {
-    headers::is_mirror(make::header(args, 0))
-}
-
-// Whether widths are right, or have an originator.
-fn is_of_sizes(which: u8, sizes: AddressSizes) -> bool {
-    if which == 10 {
-        return sizes.is_right();
-    }
-    sizes.originator_address()
-}
-
-// A number that follows from the widths.
-fn of_sizes(which: u8, sizes: AddressSizes) -> u64 {
-    match which {
-        12 => sizes.header_len() as u64,
-        13 => sizes.max_ioa() as u64,
-        14 => sizes.max_common_address() as u64,
-        15 => sizes.broadcast_common_address() as u64,
-        16 => sizes::max_segment(sizes) as u64,
-        _ => sizes::max_directory_files(sizes) as u64,
-    }
-}
-
-fn new_sizes(sizes: AddressSizes) {
+fn new_sizes<W: fmt::Write>(given: AddressSizes, out: &mut W) -> Answered {
     match AddressSizes::new(
-        sizes.cause_octets,
-        sizes.common_address_octets,
-        sizes.information_object_address_octets,
+        given.cause_octets,
+        given.common_address_octets,
+        given.information_object_address_octets,
     ) {
-        SizesResult::Ok(_) => write::word(write::MADE),
-        SizesResult::Err(error) => write::refused(error),
+        Ok(_) => answer_word("made", out),
+        Err(error) => answer(error, out),
     }
 }
 
-fn unknown_cause(args: &Numbers) {
-    write::one(make::unspecified(args, 0).cause().value as u64);
-}
-
-fn sum(octets: &[u8]) {
-    write::one(checksum::checksum(octets, 0).value as u64);
-}
-
-fn check_sum(args: &Numbers, octets: &[u8]) {
-    match checksum::check_checksum(octets, make::chs(args, 0)) {
-        ChecksumResult::Ok => write::word(write::EQUAL),
-        ChecksumResult::Err { expected, got, .. } => {
-            write::answer(
-                write::REFUSED_SUM,
-                expected.value as u64,
-                got.value as u64,
-                0,
-            )
-        }
+fn of_sizes<W: fmt::Write>(words: &mut Words<'_>, out: &mut W) -> Answered {
+    let what = words.word()?;
+    let widths: AddressSizes = words.value()?;
+    match what {
+        "new" => new_sizes(widths, out),
+        "is_right" => answer(widths.is_right(), out),
+        "originator_address" => answer(widths.originator_address(), out),
+        "header_len" => answer(widths.header_len(), out),
+        "max_ioa" => answer(widths.max_ioa(), out),
+        "max_common_address" => answer(widths.max_common_address(), out),
+        "broadcast_common_address" => answer(widths.broadcast_common_address(), out),
+        "max_segment" => answer(sizes::max_segment(widths), out),
+        "max_directory_files" => answer(sizes::max_directory_files(widths), out),
+        _ => Err(Unanswered::Unread),
     }
 }
 
-fn packed(answer: Packed, octets: &[u8]) {
-    match answer {
-        Packed::Ok => write::word(write::PACKED),
-        Packed::Err(error) => write::refused(error),
-    }
-    write::next_octets(octets);
-}
-
-// Packs an entry into the octets, which are all 170 before.
-fn pack(entry: DirectoryEntry, octets: &mut [u8]) {
-    let answer = entry.pack(octets);
-    packed(answer, octets);
-}
-
-fn pack_into(args: &Numbers) {
-    let count = args[0] as usize;
-    let mut octets = [170u8; 9216];
-    if count <= 9216 {
-        pack(make::entry(args, 1), &mut octets[0..count]);
-    }
-}
-
-fn unpack(octets: &[u8]) {
-    match DirectoryEntry::unpack(octets) {
-        EntryResult::Ok(entry) => show::entry(entry),
-        EntryResult::Err(error) => write::refused(error),
+// A constant of the library.
+fn constant(name: &str) -> Result<usize, Unanswered> {
+    match name {
+        "nof_len" => Ok(Nof::LEN),
+        "nos_len" => Ok(Nos::LEN),
+        "lof_len" => Ok(Lof::LEN),
+        "los_len" => Ok(Los::LEN),
+        "sof_len" => Ok(Sof::LEN),
+        "time_len" => Ok(Cp56Time2a::LEN),
+        "entry_len" => Ok(DirectoryEntry::LEN),
+        "deactivate_file" => Ok(usize::from(Scq::DEACTIVATE_FILE)),
+        "delete_file" => Ok(usize::from(Scq::DELETE_FILE)),
+        "deactivate_section" => Ok(usize::from(Scq::DEACTIVATE_SECTION)),
+        "los_max" => Ok(usize::from(Los::MAX)),
+        "max_segment" => Ok(sizes::MAX_SEGMENT),
+        "max_asdu" => Ok(sizes::MAX_ASDU),
+        "max_directory_files" => Ok(sizes::MAX_DIRECTORY_FILES),
+        _ => Err(Unanswered::Unread),
     }
 }
 
-// A constant of an element, by its place in the table behind the calls.
-fn constant_of(which: u8) -> u64 {
-    match which {
-        26 => Nof::LEN as u64,
-        27 => Nos::LEN as u64,
-        28 => Lof::LEN as u64,
-        29 => Los::LEN as u64,
-        30 => Sof::LEN as u64,
-        31 => Cp56Time2a::LEN as u64,
-        32 => DirectoryEntry::LEN as u64,
-        33 => Scq::DEACTIVATE_FILE as u64,
-        34 => Scq::DELETE_FILE as u64,
-        35 => Scq::DEACTIVATE_SECTION as u64,
-        36 => Los::MAX as u64,
-        37 => sizes::MAX_SEGMENT as u64,
-        38 => sizes::MAX_ASDU as u64,
-        _ => sizes::MAX_DIRECTORY_FILES as u64,
+// ---- Packed entries
+
+// Packs an entry into a buffer of so many octets, and shows the whole buffer as it then is.
+fn pack<W: fmt::Write>(words: &mut Words<'_>, out: &mut W) -> Answered {
+    let Blank(mut octets) = words.value()?;
+    let entry: DirectoryEntry = words.value()?;
+    match entry.pack(&mut octets) {
+        Ok(()) => out.write_str("packed")?,
+        Err(error) => write!(out, "{}", Shown(&error))?,
+    }
+    write!(out, "{}", Behind(&octets))?;
+    Ok(())
+}
+
+fn unpack<W: fmt::Write>(words: &mut Words<'_>, out: &mut W) -> Answered {
+    let octets: Octets = words.value()?;
+    answer(DirectoryEntry::unpack(&octets), out)
+}
+
+fn is_page<W: fmt::Write>(words: &mut Words<'_>, out: &mut W) -> Answered {
+    let octets: Octets = words.value()?;
+    answer(entry::is_page(&octets), out)
+}
+
+// ---- The checksum
+
+fn sum<W: fmt::Write>(words: &mut Words<'_>, out: &mut W) -> Answered {
+    let octets: Octets = words.value()?;
+    answer(checksum::checksum(&octets, 0), out)
+}
+
+fn check_sum<W: fmt::Write>(words: &mut Words<'_>, out: &mut W) -> Answered {
+    let stated = words.value()?;
+    let octets: Octets = words.value()?;
+    match checksum::check_checksum(&octets, stated) {
+        Ok(()) => answer_word("equal", out),
+        Err(differ) => answer(differ, out),
     }
 }
 
-fn entry_address(args: &Numbers) {
-    let base = u32_at(args, 0, 0);
-    write::one(entry::entry_address(base, args[1] as usize) as u64);
-}
+// ---- Calls
 
-// The calls behind the questions.
-fn answer_more(which: u8, args: &Numbers, octets: &[u8]) {
-    match which {
-        18 => new_sizes(make::sizes(args, 0)),
-        19 => unknown_cause(args),
-        20 => sum(octets),
-        21 => check_sum(args, octets),
-        22 => pack_into(args),
-        23 => unpack(octets),
-        25 => entry_address(args),
-        12..=17 => write::one(of_sizes(which, make::sizes(args, 0))),
-        _ => write::one(constant_of(which)),
+// Answers a call of this name.
+pub fn call<W: fmt::Write>(name: &str, words: &mut Words<'_>, out: &mut W) -> Answered {
+    match name {
+        "frq" => answer(words.value::<Frq>()?.is_in_range(), out),
+        "srq" => answer(words.value::<Srq>()?.is_in_range(), out),
+        "scq" => answer(words.value::<Scq>()?.is_in_range(), out),
+        "afq" => answer(words.value::<Afq>()?.is_in_range(), out),
+        "lof" => answer(words.value::<Lof>()?.is_in_range(), out),
+        "los" => answer(words.value::<Los>()?.is_in_range(), out),
+        "sof" => answer(words.value::<Sof>()?.is_in_range(), out),
+        "time" => answer(words.value::<Cp56Time2a>()?.is_in_range(), out),
+        "entry" => answer(words.value::<DirectoryEntry>()?.is_in_range(), out),
+        "pack" => pack(words, out),
+        "unpack" => unpack(words, out),
+        "is_page" => is_page(words, out),
+        "entry_address" => answer(entry::entry_address(words.value()?, words.value()?), out),
+        "constant" => answer(constant(words.word()?)?, out),
+        "sizes" => of_sizes(words, out),
+        "unknown_cause" => answer(words.value::<Unspecified>()?.cause(), out),
+        "is_mirror" => answer(headers::is_mirror(words.value()?), out),
+        "checksum" => sum(words, out),
+        "check_checksum" => check_sum(words, out),
+        _ => Err(Unanswered::Unread),
     }
-}
-
-fn answer(which: u8, args: &Numbers, octets: &[u8]) {
-    match which {
-        0..=7 => write::yes_or_no(is_in_range(which, args)),
-        8 => write::yes_or_no(entry::is_page(octets)),
-        9 => write::yes_or_no(is_mirror(args)),
-        10..=11 => write::yes_or_no(is_of_sizes(which, make::sizes(args, 0))),
-        24 => write::yes_or_no(is_in_range(which, args)),
-        _ => answer_more(which, args, octets),
-    }
-}
-
-// Answers the line, if it is one of these calls.
-pub fn call(line: &[u8], args: &mut Numbers, octets: &mut Octets) -> bool {
-    let which = read::call(
-        line,
-        b"frq:1f
-srq:1f
-scq:11
-afq:11
-lof:4
-sof:1fff
-time:21ff1f1111
-entry:241fff21ff1f1111
-is_page:o
-is_mirror:11f12
-sizes is_right:111
-sizes originator_address:111
-sizes header_len:111
-sizes max_ioa:111
-sizes max_common_address:111
-sizes broadcast_common_address:111
-sizes max_segment:111
-sizes max_directory_files:111
-sizes new:111
-unknown_cause:x
-checksum:o
-check_checksum:1o
-pack:c241fff21ff1f1111
-unpack:o
-los:1
-entry_address:48
-constant nof_len
-constant nos_len
-constant lof_len
-constant los_len
-constant sof_len
-constant time_len
-constant entry_len
-constant deactivate_file
-constant delete_file
-constant deactivate_section
-constant los_max
-constant max_segment
-constant max_asdu
-constant max_directory_files",
-        args,
-        octets,
-    );
-    if which == read::MISSING {
-        return false;
-    }
-    let count = args[read::COUNT];
-    answer(which, args, text::front(octets, count));
-    true
 }

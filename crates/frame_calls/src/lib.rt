@@ -1,5 +1,4 @@
-// Calls of `replay` (docs/REPLAY.md) on values: elements, frames and their bodies, makers and parts of octets. Each
-// module reads the line as one of its calls and answers it, or says that it is none of them.
+// Calls of `replay` (docs/REPLAY.md) on values: elements, frames and their bodies, makers and parts of octets.
 #![tactic(auto)]
 
 pub mod bodies; // the bodies of frames

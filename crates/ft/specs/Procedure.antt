@@ -1,5 +1,5 @@
 -- A station's settings and what their making accepts (document 01, Settings and refusals 2 and 3).
-use Rattle.std.specs.Prelude.{ℕ, Bool, eqb, leb, ltb}
+use Rattle.std.specs.Prelude.{ℕ, Bool, eqb, leb, ltb, Result, Ok, Err}
 use Rattle.laws.specs.When.{unless, ◌and◌, ◌or◌}
 use Rattle.asdu.specs.Sizes.{sizes_right, has_originator, max_ioa, max_common_address}
 use Rattle.asdu.specs.declared.AddressSizes.{AddressSizes}
@@ -7,9 +7,8 @@ use Rattle.asdu.specs.declared.FtError.TheVariants.{InvalidAddressSizes, Address
 use Rattle.ft.specs.declared.Role.{Role}
 use Rattle.ft.specs.declared.Selection.{Selection}
 use Rattle.ft.specs.declared.FileTransferProcedure.{FileTransferProcedure}
-use Rattle.ft.specs.declared.ProcedureResult.{ProcedureResult}
-use Rattle.ft.specs.declared.ProcedureResult.TheVariants.{Ok, Err}
 use Rattle.ft.specs.declared.Addressing.{Addressing}
+use Rattle.asdu.specs.declared.FtError.{FtError}
 
 -- the conventional widths: an originator, two octets of common address, three of object address
 abbrev pub conventional : AddressSizes
@@ -24,7 +23,7 @@ unfoldable pub addressed : AddressSizes → ℕ → ℕ → ℕ → Bool
 addressed z ca org ioa = address_right z ca org and leb ioa (max_ioa z)
 
 -- the making of a station: 2, then 3
-unfoldable pub procedure_made : Role → Selection → ℕ → ℕ → AddressSizes → ProcedureResult
+unfoldable pub procedure_made : Role → Selection → ℕ → ℕ → AddressSizes → Result FileTransferProcedure FtError
 procedure_made role selection ca org z =
     unless (sizes_right z) (Err InvalidAddressSizes)
     (unless (address_right z ca org) (Err AddressOutOfRange)
@@ -35,7 +34,7 @@ unfoldable pub settled : FileTransferProcedure → Bool
 settled p = sizes_right p.sizes and address_right p.sizes p.ca p.org
 
 -- the same station with other widths: 26 first
-unfoldable pub procedure_with : FileTransferProcedure → AddressSizes → ProcedureResult
+unfoldable pub procedure_with : FileTransferProcedure → AddressSizes → Result FileTransferProcedure FtError
 procedure_with p z =
     unless (settled p) (Err RecordMismatch)
     (procedure_made p.role p.selection p.ca p.org z)

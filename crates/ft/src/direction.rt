@@ -1,6 +1,6 @@
 // Roles, and the two directions of a file (IEC 60870-5-104, 9.6): who asks for it and who provides it.
 ghost use Rattle.std.specs.Prelude.{◌≡◌};
-ghost use Rattle.ft.specs.Directions.{other_role, direction_for, uses_direction, with_direction, flag_count, selected_count, uses_function};
+ghost use Rattle.ft.specs.Directions.{other_role, direction_for, uses_direction, with_direction, selected_count, uses_function};
 
 use crate::{Role, Selection};
 use asdu::Direction;
@@ -19,32 +19,14 @@ impl Role {
 
 // The direction of the transfer that a frame belongs to, by who sends it: in the monitor direction the
 // controlling station receives the file, in the control direction the controlled one does.
+#[tactic(auto, using(laws::proofs::Decide::decide))]
 pub fn direction_for(sender: Role, receiver_side: bool) -> Direction
     ensures { result ≡ direction_for sender receiver_side }
 {
-    match sender {
-        Role::Controlling => {
-            if receiver_side {
-                return Direction::Monitor;
-            }
-            Direction::Control
-        }
-        Role::Controlled => {
-            if receiver_side {
-                return Direction::Control;
-            }
-            Direction::Monitor
-        }
+    match (sender, receiver_side) {
+        (Role::Controlling, true) | (Role::Controlled, false) => Direction::Monitor,
+        (Role::Controlling, false) | (Role::Controlled, true) => Direction::Control,
     }
-}
-
-fn flag_count(flag: bool) -> u8
-    ensures { result ≡ flag_count flag }
-{
-    if flag {
-        return 1;
-    }
-    0
 }
 
 impl Selection {
@@ -69,18 +51,14 @@ impl Selection {
     };
 
     // Whether the direction is marked; `Both` asks for both.
+    #[tactic(auto, using(laws::proofs::Decide::decide))]
     pub fn uses(self, direction: Direction) -> bool
         ensures { result ≡ uses_direction self direction }
     {
         match direction {
             Direction::Monitor => self.monitor,
             Direction::Control => self.control,
-            Direction::Both => {
-                if self.monitor {
-                    return self.control;
-                }
-                false
-            }
+            Direction::Both => self.monitor && self.control,
         }
     }
 
@@ -91,11 +69,11 @@ impl Selection {
         match direction {
             Direction::Monitor => Selection {
                 monitor: used,
-                control: self.control,
+                ..self
             },
             Direction::Control => Selection {
-                monitor: self.monitor,
                 control: used,
+                ..self
             },
             Direction::Both => Selection {
                 monitor: used,
@@ -105,19 +83,18 @@ impl Selection {
     }
 
     // How many directions are marked.
+    #[tactic(auto, using(laws::proofs::Decide::decide), unfolding(crate::specs::Directions::selected_count, crate::specs::Directions::flag_count))]
     pub fn count(self) -> u8
         ensures { result ≡ selected_count self }
     {
-        flag_count(self.monitor) + flag_count(self.control)
+        u8::from(self.monitor) + u8::from(self.control)
     }
 
     // Whether any direction is marked: whether the station uses the function at all.
+    #[tactic(auto, using(laws::proofs::Decide::decide), unfolding(crate::specs::Directions::uses_function))]
     pub fn uses_function(self) -> bool
         ensures { result ≡ uses_function self }
     {
-        if self.monitor {
-            return true;
-        }
-        self.control
+        self.monitor || self.control
     }
 }

@@ -8,25 +8,25 @@ pub mod build; // the frames that a station makes
 pub mod direction; // roles, directions and the selection
 pub mod procedure; // a station's settings
 
-use asdu::{AddressSizes, Cause, Discard, FtError, Header};
+use asdu::{AddressSizes, Cause, Discard, Header, Unspecified};
 use frame::Frame;
 
 // The procedure's role of a station.
-#[derive(Clone, Copy)]
+#[derive(Clone, Copy, PartialEq, Eq)]
 pub enum Role {
     Controlling,
     Controlled,
 }
 
 // The two directions that a station may have marked as used.
-#[derive(Clone, Copy)]
+#[derive(Clone, Copy, PartialEq, Eq)]
 pub struct Selection {
     pub monitor: bool,
     pub control: bool,
 }
 
 // A station's settings.
-#[derive(Clone, Copy)]
+#[derive(Clone, Copy, PartialEq, Eq)]
 pub struct FileTransferProcedure {
     pub role: Role,
     pub selection: Selection,
@@ -37,28 +37,33 @@ pub struct FileTransferProcedure {
     pub sizes: AddressSizes,
 }
 
-#[derive(Clone, Copy)]
-pub enum ProcedureResult {
-    Ok(FileTransferProcedure),
-    Err(FtError),
-}
-
 // The common address and the originator that a station's frames carry.
-#[derive(Clone, Copy)]
+#[derive(Clone, Copy, PartialEq, Eq)]
 pub struct Addressing {
     pub common_address: u16,
     pub originator: u8,
 }
 
-// What came in after the header: a frame, or octets that are none.
-#[derive(Clone, Copy)]
+// What came in after the header: a frame, or octets that are none. (No `Option`: in `Incoming`,
+// `received: None` would read as nothing received.)
+#[derive(Clone, Copy, PartialEq, Eq)]
 pub enum Received {
     Frame(Frame),
     Undecodable,
 }
 
+// A received ASDU, as the station has decoded it. What stands beside its frame, a segment's payload or a
+// directory's packed entries, is handed in with it.
+#[derive(Clone, Copy, PartialEq, Eq)]
+pub struct Incoming {
+    pub header: Header,
+    // The first field of header or frame that the station does not know, if any.
+    pub unknown: Option<Unspecified>,
+    pub received: Received,
+}
+
 // What a received frame means, or its numbered refusal. The frame is the one that was handed in.
-#[derive(Clone, Copy)]
+#[derive(Clone, Copy, PartialEq, Eq)]
 pub enum Reaction {
     // A frame of the receiving side, for the one that provides the file.
     Requested,
@@ -70,18 +75,11 @@ pub enum Reaction {
     Discard(Discard),
     // Not the file transfer's.
     Other,
-    Err(FtError),
 }
 
 // A frame with the facts of its header. What stands beside it is as the caller handed it in.
-#[derive(Clone, Copy)]
+#[derive(Clone, Copy, PartialEq, Eq)]
 pub struct Asdu {
     pub header: Header,
     pub frame: Frame,
-}
-
-#[derive(Clone, Copy)]
-pub enum AsduResult {
-    Ok(Asdu),
-    Err(FtError),
 }

@@ -3,64 +3,59 @@ ghost use Rattle.std.specs.Prelude.{◌≡◌};
 ghost use Rattle.ft.specs.Procedure.{address_right, addressed, settled, procedure_made, procedure_with, addressing, conventional};
 ghost use Rattle.ft.specs.declared.Role.TheVariants.{Controlling, Controlled};
 
-use crate::{Addressing, FileTransferProcedure, ProcedureResult, Role, Selection};
+use crate::{Addressing, FileTransferProcedure, Role, Selection};
 use asdu::{AddressSizes, FtError};
 
 // Whether a station may have these addresses as its own: a common address that is not 0 and not
 // broadcast, and an originator only where the header has one.
+#[tactic(auto, using(laws::proofs::Decide::decide), unfolding(crate::specs::Procedure::address_right))]
 pub fn is_own_address(sizes: AddressSizes, ca: u16, org: u8) -> bool
     ensures { result ≡ address_right sizes ca org }
 {
-    if ca < 1 {
-        return false;
-    }
-    if sizes.max_common_address() <= ca {
-        return false;
-    }
-    if sizes.originator_address() {
-        return true;
-    }
-    org == 0
+    1 <= ca && ca < sizes.max_common_address() && (sizes.originator_address() || org == 0)
 }
 
 // Whether frames about this object address can go out with these widths under these addresses.
+#[tactic(auto, using(laws::proofs::Decide::decide), unfolding(crate::specs::Procedure::addressed))]
 pub fn is_addressed(sizes: AddressSizes, ca: u16, org: u8, ioa: u32) -> bool
     ensures { result ≡ addressed sizes ca org ioa }
 {
-    if is_own_address(sizes, ca, org) {
-        return ioa <= sizes.max_ioa();
-    }
-    false
+    is_own_address(sizes, ca, org) && ioa <= sizes.max_ioa()
 }
 
 impl FileTransferProcedure {
     // A station of this role: 2 for widths that no system has, 3 for addresses that it cannot have.
+    #[tactic(auto, using(laws::proofs::Decide::decide), unfolding(crate::specs::Procedure::procedure_made))]
     pub fn new(
         role: Role,
         selection: Selection,
         ca: u16,
         org: u8,
         sizes: AddressSizes,
-    ) -> ProcedureResult
+    ) -> Result<FileTransferProcedure, FtError>
         ensures { result ≡ procedure_made role selection ca org sizes }
     {
-        if sizes.is_right() {
-            if is_own_address(sizes, ca, org) {
-                return ProcedureResult::Ok(FileTransferProcedure {
-                    role,
-                    selection,
-                    ca,
-                    org,
-                    sizes,
-                });
-            }
-            return ProcedureResult::Err(FtError::AddressOutOfRange);
+        if !sizes.is_right() {
+            return Err(FtError::InvalidAddressSizes);
         }
-        ProcedureResult::Err(FtError::InvalidAddressSizes)
+        if !is_own_address(sizes, ca, org) {
+            return Err(FtError::AddressOutOfRange);
+        }
+        Ok(FileTransferProcedure {
+            role,
+            selection,
+            ca,
+            org,
+            sizes,
+        })
     }
 
-    // A controlling station with the conventional widths.
-    pub fn controlling(selection: Selection, common_address: u16, originator: u8) -> ProcedureResult
+    // A controlling station with the conventional widths. This and the next are two names that the Rust has.
+    pub fn controlling(
+        selection: Selection,
+        common_address: u16,
+        originator: u8,
+    ) -> Result<FileTransferProcedure, FtError>
         ensures { result ≡ procedure_made Controlling selection common_address originator conventional }
     {
         FileTransferProcedure::new(
@@ -73,7 +68,11 @@ impl FileTransferProcedure {
     }
 
     // A controlled station with the conventional widths.
-    pub fn controlled(selection: Selection, common_address: u16, originator: u8) -> ProcedureResult
+    pub fn controlled(
+        selection: Selection,
+        common_address: u16,
+        originator: u8,
+    ) -> Result<FileTransferProcedure, FtError>
         ensures { result ≡ procedure_made Controlled selection common_address originator conventional }
     {
         FileTransferProcedure::new(
@@ -86,26 +85,22 @@ impl FileTransferProcedure {
     }
 
     // The same station with other widths: 26 on settings that no making gives, then 2, 3.
-    pub fn with_address_sizes(self, sizes: AddressSizes) -> ProcedureResult
+    #[tactic(auto, using(laws::proofs::Decide::decide), unfolding(crate::specs::Procedure::procedure_with))]
+    pub fn with_address_sizes(self, sizes: AddressSizes) -> Result<FileTransferProcedure, FtError>
         ensures { result ≡ procedure_with self sizes }
     {
-        if self.is_settled() {
-            let role = self.role;
-            let selection = self.selection;
-            return FileTransferProcedure::new(role, selection, self.ca, self.org, sizes);
+        if !self.is_settled() {
+            return Err(FtError::RecordMismatch);
         }
-        ProcedureResult::Err(FtError::RecordMismatch)
+        FileTransferProcedure::new(self.role, self.selection, self.ca, self.org, sizes)
     }
 
     // Whether a making gives these settings.
+    #[tactic(auto, using(laws::proofs::Decide::decide), unfolding(crate::specs::Procedure::settled))]
     pub fn is_settled(self) -> bool
         ensures { result ≡ settled self }
     {
-        let sizes = self.sizes;
-        if sizes.is_right() {
-            return is_own_address(sizes, self.ca, self.org);
-        }
-        false
+        self.sizes.is_right() && is_own_address(self.sizes, self.ca, self.org)
     }
 
     pub fn address_sizes(self) -> AddressSizes

@@ -1,23 +1,23 @@
--- What stands in a part while it is written from front to back, and at the end.
-use Rattle.std.proofs.Common.{◌≡◌, ℕ, zero, suc, ◌+◌, ◌<◌, ◌≤◌, List, [], ◌∷◌, ◌++◌, map, length, get_or, take, drop, set, refl, append-nil, arith, drop_of_length-le, length-take-le, take_all, drop-cons}
+-- What stands in a part while it is written from front to back.
+use Rattle.std.proofs.Common.{◌≡◌, ℕ, suc, ◌+◌, ◌<◌, List, [], ◌∷◌, ◌++◌, map, length, get_or, take, drop, set, arith, append_assoc, add-one, drop-cons, take-suc, length-take-le}
+use Rattle.std.proofs.lemmas.List.{map-append}
 use lib.ListN.{length-map}
-use lib.Seq.{get_or_at}
-use Rattle.store.proofs.Parts.{front_next}
+use lib.Seq.{get_or_at, set_at}
 
--- all is written, and nothing is left of what was there
-pub all_written : (xs was : List ℕ) (i : ℕ) → length xs ≤ i → length was ≤ i → take i xs ++ drop i was ≡ xs
-all_written xs was i h k = rw (take_all i xs h, drop_of_length-le was k, append-nil)
+module _ (xs was : List ℕ) (i : ℕ) where
+  -- one element more
+  pub front_set : (v : ℕ) → length xs ≡ i → i < length was → set (xs ++ drop i was) i v ≡ (xs ++ (v ∷ [])) ++ drop (i + 1) was
+  front_set v n h = rw (add-one, drop-cons was i 0, append_assoc) (set_at xs (get_or was i 0) (drop (suc i) was) v i n)
 
-module _ (f : ℕ → ℕ) where
-  map_at : (xs : List ℕ) (i : ℕ) → i < length xs → get_or (map f xs) i 0 ≡ f (get_or xs i 0)
-  map_at [] i h = absurd (omega arith)
-  map_at (x ∷ xs) zero h = refl
-  map_at (x ∷ xs) (suc i) h = map_at xs i (omega arith)
+  pub front_get : length xs ≡ i → i < length was → get_or (xs ++ drop i was) i 0 ≡ get_or was i 0
+  front_get n h = rw (drop-cons was i 0 h) (get_or_at xs (get_or was i 0) (drop (suc i) was) 0 i n)
 
-  -- an element is changed where it stands
-  pub map_next : (xs : List ℕ) (i : ℕ) → i < length xs
-      → set (take i (map f xs) ++ drop i xs) i (f (get_or (take i (map f xs) ++ drop i xs) i 0)) ≡ take (i + 1) (map f xs) ++ drop (i + 1) xs
-  map_next xs i h =
-      let n : length (take i (map f xs)) ≡ i = length-take-le i (map f xs) (rw (length-map xs f) (omega arith)) in
-      let here : get_or (take i (map f xs) ++ drop i xs) i 0 ≡ get_or xs i 0 = rw (drop-cons xs i 0 h) (get_or_at (take i (map f xs)) (get_or xs i 0) (drop (suc i) xs) 0 i n) in
-      rw (here, ← (map_at xs i h)) (front_next (map f xs) xs i (rw (length-map xs f) h) h)
+-- one element more of a list whose elements are changed
+pub map_next : (f : ℕ → ℕ) (xs : List ℕ) (i : ℕ) → i < length xs → map f (take (i + 1) xs) ≡ map f (take i xs) ++ (f (get_or xs i 0) ∷ [])
+map_next f xs i h = rw (add-one, take-suc xs i 0 h) (map-append f (take i xs) (get_or xs i 0 ∷ []))
+
+pub map_front_length : (f : ℕ → ℕ) (xs : List ℕ) (i : ℕ) → i < length xs → length (map f (take i xs)) ≡ i
+map_front_length f xs i h = rw (length-map) (length-take-le i xs (omega arith))
+
+-- for the loops' own proofs
+pub ruleset fronts = (front_set, front_get, map_next, map_front_length)

@@ -1,5 +1,6 @@
 -- The sequence of octets: its first four, its length, each of it, and its parts.
 use Rattle.std.proofs.Common.{◌≡◌, ℕ, zero, suc, ◌+◌, ◌<◌, [], ◌∷◌, ◌++◌, length, get_or, refl, ap, arith}
+use Rattle.generator.proofs.Fronts.{front_set}
 use Rattle.generator.specs.Sequence.{stepped, octet_of, state_after, octets_from}
 
 -- document 02's four octets
@@ -35,3 +36,9 @@ module _ (b : ℕ) where
 
 pub state_next : (i s : ℕ) → state_after (i + 1) s ≡ stepped (state_after i s)
 state_next i s = states_joined 1 i s
+
+pub octets_next : (i s : ℕ) → octets_from (i + 1) s ≡ octets_from i s ++ (octet_of (stepped (state_after i s)) ∷ [])
+octets_next i s = octets_joined 1 i s
+
+-- for the proof of the loop that puts them into a part
+pub ruleset sequence = (front_set, octets_length, octets_next, state_next)

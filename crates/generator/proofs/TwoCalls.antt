@@ -1,8 +1,8 @@
 -- An allowed file filled in two calls, the generator handed on, is the file filled in one (document 02, A2).
+use Rattle.std.specs.Prelude.{Ok}
 use Rattle.std.proofs.Common.{◌≡◌, ℕ, ◌+◌, ◌≤◌, List, ◌++◌, length, arith, length-append}
 use Rattle.generator.specs.Filling.{max_length, after_steps, file_answer, file_after}
 use Rattle.generator.specs.declared.Generator.{Generator}
-use Rattle.generator.specs.declared.FileResult.TheVariants.{Ok}
 use Rattle.generator.proofs.Octets.{octets_joined, states_joined}
 use Rattle.generator.proofs.Answers.{file_filled}
 

@@ -1,15 +1,13 @@
 -- What the generator's octets fill (document 02, A2): a lent file, and a lent damage list of a script.
-use Rattle.std.specs.Prelude.{ℕ, ◌+◌, ◌%◌, min, List, ◌++◌, map, length, drop, ◌==◌, nat_le}
+use Rattle.std.specs.Prelude.{ℕ, ◌+◌, ◌%◌, min, List, ◌++◌, map, length, drop, ◌==◌, nat_le, Result, Ok, Err}
 use Rattle.laws.specs.When.{when, unless}
 use Rattle.lists.specs.Parts.{div_ceil}
 use Rattle.asdu.specs.declared.FtError.TheVariants.{FileTooLong}
 use Rattle.sections.specs.Sections.{section_length}
 use Rattle.generator.specs.Sequence.{state_after, octets_from}
 use Rattle.generator.specs.declared.Generator.{Generator}
-use Rattle.generator.specs.declared.FileResult.{FileResult}
-use Rattle.generator.specs.declared.FileResult.TheVariants as F
-use Rattle.generator.specs.declared.DamageResult.{DamageResult}
-use Rattle.generator.specs.declared.DamageResult.TheVariants as D
+use Rattle.generator.specs.declared.Damage.{Damage}
+use Rattle.asdu.specs.declared.FtError.{FtError}
 
 -- the most octets of a file
 abbrev pub max_length : ℕ
@@ -22,8 +20,8 @@ after_steps n g = record { state = state_after n g.state }
 -- ---- a file
 
 -- a file too long is 1; else the generator after it
-unfoldable pub file_answer : Generator → List ℕ → FileResult
-file_answer g file = unless (nat_le (length file) max_length) (F.Err FileTooLong) (F.Ok (after_steps (length file) g))
+unfoldable pub file_answer : Generator → List ℕ → Result Generator FtError
+file_answer g file = unless (nat_le (length file) max_length) (Err FileTooLong) (Ok (after_steps (length file) g))
 
 -- the file filled from front to back; one too long is as it was
 unfoldable pub file_after : Generator → List ℕ → List ℕ
@@ -49,9 +47,9 @@ unfoldable pub entries_from : ℕ → ℕ → ℕ → List ℕ
 entries_from n count s = map (naming (non_empty_sections n)) (octets_from count s)
 
 -- a file too long is 1; else how many places are filled, and the generator after them
-unfoldable pub damage_answer : Generator → ℕ → List ℕ → DamageResult
+unfoldable pub damage_answer : Generator → ℕ → List ℕ → Result Damage FtError
 damage_answer g n list =
-    let count : ℕ = places_filled n (length list) in unless (nat_le n max_length) (D.Err FileTooLong) (D.Ok count (after_steps count g))
+    let count : ℕ = places_filled n (length list) in unless (nat_le n max_length) (Err FileTooLong) (Ok (record { count = count; generator = after_steps count g }))
 
 -- the entries in front of the list, and the places past them as they were
 unfoldable pub damage_after : Generator → ℕ → List ℕ → List ℕ

@@ -4,21 +4,19 @@ use mathlib.Core.Path.{◌≡◌, refl, subst}
 use mathlib.Core.Logic.{inl, inr}
 use mathlib.Core.Bool.{true, false}
 use mathlib.Core.List.{List, [], ◌∷◌, ◌++◌, map}
+use Rattle.std.specs.Prelude.{Err, Option, Result, Ok}
 use Rattle.laws.specs.When.{when}
 use Rattle.asdu.specs.declared.Nof.{Nof}
 use Rattle.asdu.specs.declared.Nos.{Nos}
 use Rattle.asdu.specs.declared.Scq.{Scq}
 use Rattle.asdu.specs.declared.Afq.{Afq}
 use Rattle.asdu.specs.declared.Header.{Header}
-use Rattle.asdu.specs.declared.UnknownField.{UnknownField}
 use Rattle.asdu.specs.declared.FtError.{FtError}
 use Rattle.frame.specs.declared.Frame.{Frame}
 use Rattle.frame.specs.declared.Frame.TheVariants as F
 use Rattle.checksum.specs.Checksum.{checksum}
 use Rattle.ft.specs.Admission.{on_asdu}
 use Rattle.ft.specs.Building.{framed, built}
-use Rattle.ft.specs.declared.AsduResult.{AsduResult}
-use Rattle.ft.specs.declared.AsduResult.TheVariants as B
 use Rattle.ft.specs.declared.Received.{Received}
 use Rattle.ft.specs.declared.Received.TheVariants as D
 use Rattle.ft.specs.declared.Reaction.{Reaction}
@@ -34,14 +32,14 @@ use Rattle.requests.specs.declared.Reply.{Reply}
 use Rattle.requests.specs.declared.Reply.TheVariants.{Nothing, FileReady, SectionReady, Section, FileClose}
 use Rattle.requests.specs.declared.ProviderAnswer.{ProviderAnswer}
 use Rattle.requests.specs.declared.ProviderAnswer.TheVariants as P
-use Rattle.provide.specs.declared.FrameResult.{FrameResult}
-use Rattle.provide.specs.declared.FrameResult.TheVariants.{Err}
 use Rattle.exchange.specs.Exchange.{provider_sends}
 use Rattle.exchange.specs.Lines.{stated_sum}
 use Rattle.history.specs.Calls.{closes_file, same_file, Input, provides, frames_of, Among, AcceptedWith, ProviderCompletesOnly, ProviderClosesOnly}
 use Rattle.history.specs.Events.{provider_completion, announced_frames}
 use Rattle.laws.proofs.Choices.{by_test, if_so, either}
 use Rattle.history.proofs.Choosing.{both_so, never}
+use Rattle.asdu.specs.declared.Unspecified.{Unspecified}
+use Rattle.ft.specs.declared.Asdu.{Asdu}
 
 -- ---- what it sends
 
@@ -89,16 +87,16 @@ answers_state p file (P.Refused cause mirror) = none_states (checksum file)
 answers_state p file (P.Err e) = none_states (checksum file)
 
 -- an announcement is none either
-record FrameStates (sum : ℕ) (a : FrameResult) : Type 0 where
+record FrameStates (sum : ℕ) (a : Result Frame FtError) : Type 0 where
   states : Stated sum (announced_frames a)
 
-record BuiltStates (sum : ℕ) (a : AsduResult) : Type 0 where
+record BuiltStates (sum : ℕ) (a : Result Asdu FtError) : Type 0 where
   built : FrameStates sum (frame_of a)
 
 refused : (sum : ℕ) (e : FtError) → FrameStates sum (Err e)
 refused sum e = record { states = none_states sum }
 
-not_built : (sum : ℕ) (e : FtError) → BuiltStates sum (B.Err e)
+not_built : (sum : ℕ) (e : FtError) → BuiltStates sum (Err e)
 not_built sum e = record { built = refused sum e }
 
 framed_states : (sum : ℕ) (p : Provider) → BuiltStates sum (framed p.procedure.sizes p.procedure.ca p.procedure.org (file_ready p) [])
@@ -180,15 +178,15 @@ module _ (p : Provider) (received : Received) where
   requested_right (D.Frame f) is = if_so Right _ _ _ (λ e. ours_right f is e) (is_right _ refl refl tt)
   requested_right D.Undecodable is = is_right _ refl refl tt
 
-  admitted_right : (a : Reaction) → Right (provide_admitted p received a)
-  admitted_right A.Requested = requested_right received refl
-  admitted_right A.Answered = is_right _ refl refl tt
-  admitted_right (A.Refused cause mirror) = is_right _ refl refl tt
-  admitted_right (A.Discard why) = is_right _ refl refl tt
-  admitted_right A.Other = is_right _ refl refl tt
-  admitted_right (A.Err e) = is_right _ refl refl tt
+  admitted_right : (a : Result Reaction FtError) → Right (provide_admitted p received a)
+  admitted_right (Ok A.Requested) = requested_right received refl
+  admitted_right (Ok A.Answered) = is_right _ refl refl tt
+  admitted_right (Ok (A.Refused cause mirror)) = is_right _ refl refl tt
+  admitted_right (Ok (A.Discard why)) = is_right _ refl refl tt
+  admitted_right (Ok A.Other) = is_right _ refl refl tt
+  admitted_right (Err e) = is_right _ refl refl tt
 
-provide_right : (p : Provider) (file : List ℕ) (h : Header) (unknown : UnknownField) (received : Received) (beside : List ℕ)
+provide_right : (p : Provider) (file : List ℕ) (h : Header) (unknown : Option Unspecified) (received : Received) (beside : List ℕ)
     → Right p received (provide p file h unknown received beside)
 unfolding provide
 provide_right p file h unknown received beside =
@@ -205,7 +203,7 @@ pub record Still (t : ProviderStep) : Type 0 where
   pub done : t.provider.done ≡ true
   pub none : provider_completion t.answer ≡ []
 
-provide_still : (p : Provider) (file : List ℕ) (h : Header) (unknown : UnknownField) (received : Received) (beside : List ℕ) → p.done ≡ true
+provide_still : (p : Provider) (file : List ℕ) (h : Header) (unknown : Option Unspecified) (received : Received) (beside : List ℕ) → p.done ≡ true
     → Still (provide p file h unknown received beside)
 unfolding provide
 provide_still p file h unknown received beside over =

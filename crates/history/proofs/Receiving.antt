@@ -7,6 +7,7 @@ use mathlib.Core.List.{List, []}
 use native.Mathlib.Omega.{arith}
 use lib.Dec.{eqb}
 use borrow.Author.Tests.{eqb-true, eq-eqb}
+use Rattle.std.specs.Prelude.{Err, Ok, Option, Result}
 use Rattle.laws.specs.When.{when, ◌and◌}
 use Rattle.asdu.proofs.Range.{both}
 use Rattle.asdu.specs.declared.Nof.{Nof}
@@ -17,15 +18,12 @@ use Rattle.asdu.specs.declared.Srq.{Srq}
 use Rattle.asdu.specs.declared.Lsq.{Lsq}
 use Rattle.asdu.specs.declared.Chs.{Chs}
 use Rattle.asdu.specs.declared.Header.{Header}
-use Rattle.asdu.specs.declared.UnknownField.{UnknownField}
 use Rattle.asdu.specs.declared.FtError.TheVariants as E
 use Rattle.frame.specs.declared.Frame.{Frame}
 use Rattle.frame.specs.declared.Frame.TheVariants as F
 use Rattle.frame.specs.Answers.{names_agree, answers_to}
 use Rattle.ft.specs.Admission.{on_asdu, matched, answering, on_answer}
 use Rattle.ft.specs.Building.{built}
-use Rattle.ft.specs.declared.AsduResult.{AsduResult}
-use Rattle.ft.specs.declared.AsduResult.TheVariants as B
 use Rattle.ft.specs.declared.Received.{Received}
 use Rattle.ft.specs.declared.Received.TheVariants as D
 use Rattle.ft.specs.declared.Reaction.{Reaction}
@@ -48,6 +46,9 @@ use Rattle.history.specs.Calls.{accepts_file, closes_file, same_file, Input, rec
 use Rattle.history.specs.Events.{receiver_completion}
 use Rattle.laws.proofs.Choices.{by_test, if_so, either}
 use Rattle.history.proofs.Choosing.{both_so, never}
+use Rattle.asdu.specs.declared.FtError.{FtError}
+use Rattle.asdu.specs.declared.Unspecified.{Unspecified}
+use Rattle.ft.specs.declared.Asdu.{Asdu}
 
 -- ---- what a step sends that does not complete
 
@@ -101,19 +102,19 @@ answers_file r s ioa nof nos lsq chs e = by_sent s e
     by_sent (S.Acknowledgement action nos) h = same _ _ h
 
 -- an answer that is admitted
-was_answered : (b : Bool) → when b A.Answered (A.Err E.EchoMismatch) ≡ A.Answered → b ≡ true
+was_answered : (b : Bool) → when b (Ok A.Answered) (Err E.EchoMismatch) ≡ (Ok A.Answered) → b ≡ true
 unfolding when
 was_answered true e = refl
 was_answered false e = cc
 
-answers_sent : (sent f : Frame) (x : Reaction) → answering sent (D.Frame f) x ≡ A.Answered → answers_to sent f ≡ true
+answers_sent : (sent f : Frame) (x : Result Reaction FtError) → answering sent (D.Frame f) x ≡ (Ok A.Answered) → answers_to sent f ≡ true
 unfolding matched
-answers_sent sent f A.Answered e = was_answered (answers_to sent f) e
-answers_sent sent f A.Requested e = cc
-answers_sent sent f (A.Refused cause mirror) e = cc
-answers_sent sent f (A.Discard why) e = cc
-answers_sent sent f A.Other e = cc
-answers_sent sent f (A.Err k) e = cc
+answers_sent sent f (Ok A.Answered) e = was_answered (answers_to sent f) e
+answers_sent sent f (Ok A.Requested) e = cc
+answers_sent sent f (Ok (A.Refused cause mirror)) e = cc
+answers_sent sent f (Ok (A.Discard why)) e = cc
+answers_sent sent f (Ok A.Other) e = cc
+answers_sent sent f (Err k) e = cc
 
 -- ---- one call
 
@@ -207,20 +208,20 @@ module _ (r : Receiver) (store : List ℕ) (received : Received) where
     answered_right payload (F.Directory ioa cause) is e = is_right _ refl refl (sends_nothing _ refl)
     answered_right payload (F.QueryLog ioa nof start stop) is e = is_right _ refl refl (sends_nothing _ refl)
 
-    received_right : (payload : List ℕ) (y : Received) (a : Reaction) → received ≡ y → answering (awaited r) y a ≡ A.Answered
+    received_right : (payload : List ℕ) (y : Received) (a : Result Reaction FtError) → received ≡ y → answering (awaited r) y a ≡ Ok A.Answered
         → Right (on_received r store payload y)
     received_right payload (D.Frame f) a is e = answered_right payload f is (answers_sent (awaited r) f a e)
     received_right payload D.Undecodable a is e = is_right _ refl refl (sends_nothing _ refl)
 
-    admitted_right : (payload : List ℕ) (a b : Reaction) → answering (awaited r) received a ≡ b → Right (receive_admitted r store payload received b)
-    admitted_right payload a A.Requested e = is_right _ refl refl (sends_nothing _ refl)
-    admitted_right payload a A.Answered e = received_right payload received a refl e
-    admitted_right payload a (A.Refused cause mirror) e = is_right _ refl refl (sends_nothing _ refl)
-    admitted_right payload a (A.Discard why) e = is_right _ refl refl (sends_nothing _ refl)
-    admitted_right payload a A.Other e = is_right _ refl refl (sends_nothing _ refl)
-    admitted_right payload a (A.Err k) e = is_right _ refl refl (sends_nothing _ refl)
+    admitted_right : (payload : List ℕ) (a b : Result Reaction FtError) → answering (awaited r) received a ≡ b → Right (receive_admitted r store payload received b)
+    admitted_right payload a (Ok A.Requested) e = is_right _ refl refl (sends_nothing _ refl)
+    admitted_right payload a (Ok A.Answered) e = received_right payload received a refl e
+    admitted_right payload a (Ok (A.Refused cause mirror)) e = is_right _ refl refl (sends_nothing _ refl)
+    admitted_right payload a (Ok (A.Discard why)) e = is_right _ refl refl (sends_nothing _ refl)
+    admitted_right payload a (Ok A.Other) e = is_right _ refl refl (sends_nothing _ refl)
+    admitted_right payload a (Err k) e = is_right _ refl refl (sends_nothing _ refl)
 
-receive_right : (r : Receiver) (store : List ℕ) (h : Header) (unknown : UnknownField) (received : Received) (beside : List ℕ)
+receive_right : (r : Receiver) (store : List ℕ) (h : Header) (unknown : Option Unspecified) (received : Received) (beside : List ℕ)
     → Right r store received (receive r store h unknown received beside)
 unfolding receive on_answer
 receive_right r store h unknown received beside =
@@ -234,9 +235,9 @@ pub receives_right : (r : Receiver) (store : List ℕ) (x : Input) → Right r s
 receives_right r store x = receive_right r store x.header x.unknown x.received x.beside
 
 -- the start likewise, which completes nothing
-starts_with_right : (r : Receiver) (store : List ℕ) (received : Received) (a : AsduResult) → RightAt r store received (started_with r a)
-starts_with_right r store received (B.Ok a) = quiet r store received _ refl refl (sends_request _ _ _ refl refl)
-starts_with_right r store received (B.Err e) = quiet r store received _ refl refl (sends_nothing _ refl)
+starts_with_right : (r : Receiver) (store : List ℕ) (received : Received) (a : Result Asdu FtError) → RightAt r store received (started_with r a)
+starts_with_right r store received (Ok a) = quiet r store received _ refl refl (sends_request _ _ _ refl refl)
+starts_with_right r store received (Err e) = quiet r store received _ refl refl (sends_nothing _ refl)
 
 pub starts_right : (r : Receiver) (store : List ℕ) (received : Received) → Right r store received (leaving store (started r store))
 unfolding started
@@ -259,7 +260,7 @@ module _ (r : Receiver) (store : List ℕ) (over : r.done ≡ true) where
       → receiver_completion o.step.answer ≡ [] → Still r store o
   is_still o d k s n = record { done = d ∙ over; kept = k; stored = s; none = n }
 
-  receive_still : (h : Header) (unknown : UnknownField) (received : Received) (beside : List ℕ) → Still r store (receive r store h unknown received beside)
+  receive_still : (h : Header) (unknown : Option Unspecified) (received : Received) (beside : List ℕ) → Still r store (receive r store h unknown received beside)
   unfolding receive
   receive_still h unknown received beside =
       either (Still r store) _ _ _
@@ -272,9 +273,9 @@ module _ (r : Receiver) (store : List ℕ) (over : r.done ≡ true) where
   record StillAt (t : ReceiverStep) : Type 0 where
     at : Still r store (leaving store t)
 
-  start_with_still : (a : AsduResult) → StillAt (started_with r a)
-  start_with_still (B.Ok a) = record { at = is_still _ refl refl refl refl }
-  start_with_still (B.Err e) = record { at = is_still _ refl refl refl refl }
+  start_with_still : (a : Result Asdu FtError) → StillAt (started_with r a)
+  start_with_still (Ok a) = record { at = is_still _ refl refl refl refl }
+  start_with_still (Err e) = record { at = is_still _ refl refl refl refl }
 
   pub starts_still : Still r store (leaving store (started r store))
   unfolding started

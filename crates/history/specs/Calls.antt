@@ -1,10 +1,9 @@
 -- Whatever comes in: on what one call of a machine completes, with no premise on the channel (document 01, The Provider's record and The Receiver's record).
-use Rattle.std.specs.Prelude.{ℕ, ◌≤◌, ◌≡◌, ◌⊎◌, Bool, true, false, List, [], ◌∷◌, map, eqb, length}
+use Rattle.std.specs.Prelude.{ℕ, ◌≤◌, ◌≡◌, ◌⊎◌, Bool, true, false, List, [], ◌∷◌, map, eqb, length, Option}
 use Rattle.laws.specs.When.{◌and◌, ◌or◌}
 use Rattle.asdu.specs.Codes.{FILE_POSITIVE}
 use Rattle.asdu.specs.declared.Nof.{Nof}
 use Rattle.asdu.specs.declared.Header.{Header}
-use Rattle.asdu.specs.declared.UnknownField.{UnknownField}
 use Rattle.frame.specs.declared.Frame.{Frame}
 use Rattle.frame.specs.declared.Frame.TheVariants as F
 use Rattle.checksum.specs.Checksum.{checksum}
@@ -22,6 +21,7 @@ use Rattle.receive.specs.declared.ReceiverStep.{ReceiverStep}
 use Rattle.receive.specs.declared.ReceiverAnswer.TheVariants as R
 use Rattle.exchange.specs.Exchange.{provider_sends, receiver_sends}
 use Rattle.exchange.specs.Lines.{stated_sum}
+use Rattle.asdu.specs.declared.Unspecified.{Unspecified}
 
 -- ---- the two frames on which machines complete
 
@@ -56,7 +56,7 @@ closes_file object name (F.QueryLog ioa nof start stop) = false
 -- what is handed over: a header, its first unknown field, a frame or the word that it is undecodable, and the octets beside it (document 01, The admitted frame)
 pub record Input : Type 0 where
   pub header : Header
-  pub unknown : UnknownField
+  pub unknown : Option Unspecified
   pub received : Received
   pub beside : List ℕ
 

@@ -1,19 +1,18 @@
 -- The history of a transfer on any channel, which document 01 leaves open: one Provider, one Receiver, and events of any kind, in any order and any number.
-use Rattle.std.specs.Prelude.{ℕ, List, [], ◌∷◌, ◌++◌}
+use Rattle.std.specs.Prelude.{ℕ, List, [], ◌∷◌, ◌++◌, Result, Ok, Err}
 use Rattle.frame.specs.declared.Frame.{Frame}
 use Rattle.provide.specs.Replies.{announced}
 use Rattle.provide.specs.declared.Provider.{Provider}
 use Rattle.provide.specs.declared.ProviderStep.{ProviderStep}
 use Rattle.requests.specs.declared.ProviderAnswer.{ProviderAnswer}
 use Rattle.requests.specs.declared.ProviderAnswer.TheVariants as P
-use Rattle.provide.specs.declared.FrameResult.{FrameResult}
-use Rattle.provide.specs.declared.FrameResult.TheVariants.{Ok, Err}
 use Rattle.receive.specs.Record.{started}
 use Rattle.receive.specs.Answers.{Outcome, leaving}
 use Rattle.receive.specs.declared.Receiver.{Receiver}
 use Rattle.receive.specs.declared.ReceiverAnswer.{ReceiverAnswer}
 use Rattle.receive.specs.declared.ReceiverAnswer.TheVariants as R
 use Rattle.history.specs.Calls.{Input, provides, receives, frames_by_provider, frames_by_receiver}
+use Rattle.asdu.specs.declared.FtError.{FtError}
 
 -- ---- completions
 
@@ -85,12 +84,12 @@ receiver_called s o =
     }
 
 -- the frame of an announcement that is not refused
-abbrev pub announced_frames : FrameResult → List Frame
+abbrev pub announced_frames : Result Frame FtError → List Frame
 announced_frames (Ok f) = f ∷ []
 announced_frames (Err e) = []
 
 -- of the announcement, which leaves the record as it is
-abbrev pub file_announced : State → FrameResult → State
+abbrev pub file_announced : State → Result Frame FtError → State
 file_announced s a =
     record {
       provider = s.provider;

@@ -1,5 +1,5 @@
 -- Nothing is freed that the desk does not hold (on AFQ 1, the positive file acknowledgement of 7.2.6.32, a recorder frees its file): on a channel that forges neither of two frames, and may do anything else.
-use Rattle.std.specs.Prelude.{ℕ, ◌≤◌, ◌≡◌, true, List, [], ◌∷◌, length, take}
+use Rattle.std.specs.Prelude.{ℕ, ◌≤◌, ◌≡◌, true, List, [], ◌∷◌, length, take, Ok}
 use Rattle.asdu.specs.declared.Nof.{Nof}
 use Rattle.frame.specs.declared.Frame.{Frame}
 use Rattle.checksum.specs.Checksum.{checksum}
@@ -7,10 +7,8 @@ use Rattle.ft.specs.declared.FileTransferProcedure.{FileTransferProcedure}
 use Rattle.ft.specs.declared.Received.TheVariants as D
 use Rattle.provide.specs.Record.{provider_made}
 use Rattle.provide.specs.declared.Provider.{Provider}
-use Rattle.provide.specs.declared.ProviderResult.TheVariants as PM
 use Rattle.receive.specs.Record.{receiver_made}
 use Rattle.receive.specs.declared.Receiver.{Receiver}
-use Rattle.receive.specs.declared.ReceiverResult.TheVariants as RM
 use Rattle.history.specs.Calls.{accepts_file, closes_file, Among}
 use Rattle.history.specs.Events.{provider_completes, receiver_completes, Event, starts, announces, to_provider, to_receiver, State, state_after, Throughout}
 
@@ -28,9 +26,9 @@ pub record History : Type 0 where
   pub store : List ℕ
   -- both makings accept
   pub provider : Provider
-  pub provider_is_made : provider_made provider_station object name (length file) ≡ PM.Ok provider
+  pub provider_is_made : provider_made provider_station object name (length file) ≡ Ok provider
   pub receiver : Receiver
-  pub receiver_is_made : receiver_made receiver_station object name ≡ RM.Ok receiver
+  pub receiver_is_made : receiver_made receiver_station object name ≡ Ok receiver
   -- any events, in any order and any number: frames may be lost, repeated, reordered, altered, invented, or come from other stations
   pub events : List Event
 

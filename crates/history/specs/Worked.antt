@@ -1,8 +1,7 @@
 -- Each premise is needed, and no more than the sum is promised: three short histories. Their stations are those of document 01's worked script.
-use Rattle.std.specs.Prelude.{ℕ, ◌≡◌, ◌≢◌, false, List, [], ◌∷◌, take}
+use Rattle.std.specs.Prelude.{ℕ, ◌≡◌, ◌≢◌, false, List, [], ◌∷◌, take, None}
 use Rattle.asdu.specs.declared.Nof.{Nof}
 use Rattle.asdu.specs.declared.Nos.{Nos}
-use Rattle.asdu.specs.declared.UnknownField.TheVariants as U
 use Rattle.frame.specs.declared.Frame.{Frame}
 use Rattle.frame.specs.declared.Frame.TheVariants as F
 use Rattle.checksum.specs.Checksum.{checksum}
@@ -36,7 +35,7 @@ zero_close = F.LastSection 100 worked_name first (record { value = 1 }) (record 
 
 -- handed over under the header that a worked station builds
 abbrev input_of : Frame → Input
-input_of f = record { header = header_of 1 0 f; unknown = U.Nothing; received = D.Frame f; beside = [] }
+input_of f = record { header = header_of 1 0 f; unknown = None; received = D.Frame f; beside = [] }
 
 -- the Receiver is led to its request for section 1, gets no segment, and is handed the close of a file with the sum 0; what it sends goes to the Provider
 abbrev closed_at_once : List Event

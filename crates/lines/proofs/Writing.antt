@@ -1,5 +1,5 @@
 -- Octets written behind octets that were written, and the room that a number takes.
-use Prim.Native.Nat.{ℕ, ◌+◌, ◌/◌, ◌≤◌, ◌<◌}
+use Prim.Native.Nat.{ℕ, ◌+◌, ◌≤◌, ◌<◌}
 use mathlib.Core.Path.{◌≡◌, ◌∙◌}
 use mathlib.Core.List.{List, ◌++◌}
 use native.Mathlib.Omega.{arith}
@@ -9,7 +9,7 @@ use Rattle.store.proofs.Written.{written_twice}
 use Rattle.script.specs.Decimal.{decimal}
 use Rattle.script.specs.Answers.{over}
 use Rattle.lines.specs.Putting.{Put}
-use Rattle.script.proofs.Decimals.{decimal_one, decimal_more, digits_most}
+use Rattle.script.proofs.Decimals.{digits_most}
 
 -- octets put behind octets
 pub put_then : {xs ys zs : List ℕ} {a n k : ℕ} {p q : List ℕ} → Put xs a p n ys → Put ys n q k zs → a + length p ≤ length xs → Put xs a (p ++ q) k zs
@@ -27,9 +27,3 @@ module _ (n : ℕ) where
 
   pub word_most : n < 4294967296 → length (decimal n) ≤ 10
   word_most h = digits_most 9 n (omega arith)
-
-  pub one_digit : n ≤ 9 → length (decimal n) ≡ 1
-  one_digit h = rw (decimal_one n h)
-
-  pub more_digits : 9 < n → length (decimal n) ≡ length (decimal (n / 10)) + 1
-  more_digits h = rw (decimal_more n h, length-append)

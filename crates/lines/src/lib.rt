@@ -2,16 +2,16 @@
 // its type, section, qualifier and checksum. A number can be put into any text.
 #![tactic(auto)]
 
-ghost use Rattle.std.specs.Prelude.{◌≡◌, [], ◌∷◌, ◌+◌, ◌≤◌, ◌<◌, length};
+ghost use Rattle.std.specs.Prelude.{◌≡◌, ◌∷◌, ◌≤◌, length};
 ghost use Rattle.exchange.specs.Lines.{side_of, named_section, qualifier, stated_sum};
-ghost use Rattle.script.specs.Decimal.{decimal};
-ghost use Rattle.lines.specs.LineText.{letter_of, fields_text, line_text};
-ghost use Rattle.lines.specs.Numbers.{place_after, text_with};
-ghost use Rattle.lines.specs.Putting.{Put};
 ghost use Rattle.script.specs.Answers.{over};
+ghost use Rattle.script.specs.Decimal.{decimal};
+ghost use Rattle.lines.specs.LineText.{letter_of, line_text};
+ghost use Rattle.lines.specs.Numbers.{place_after, text_with};
 
 use exchange::Sender;
 use frame::Frame;
+use itoa::Buffer;
 
 // The sender's letter.
 fn letter_of(sender: Sender) -> u8
@@ -23,116 +23,54 @@ fn letter_of(sender: Sender) -> u8
     }
 }
 
-// The section that a frame names, or 0.
-fn section_of(frame: Frame) -> u8
-    ensures { result ≡ named_section frame }
+// What a line tells of a frame behind its type: the section that it names, its action, length or value, and the
+// checksum that it states, each 0 where the frame has none.
+fn fields_of(frame: Frame) -> (u8, u32, u8)
+    ensures { (result.0 ≡ named_section frame) × (result.1 ≡ qualifier frame) × (result.2 ≡ stated_sum frame) }
 {
     match frame {
-        Frame::FileReady { .. } => 0,
-        Frame::SectionReady { nos, .. } => nos.value,
-        Frame::Sc { nos, .. } => nos.value,
-        Frame::LastSection { nos, .. } => nos.value,
-        Frame::Ack { nos, .. } => nos.value,
-        Frame::Segment { nos, .. } => nos.value,
-        Frame::Directory { .. } => 0,
-        Frame::QueryLog { .. } => 0,
+        Frame::FileReady { lof, .. } => (0, lof.value, 0),
+        Frame::SectionReady { nos, lof, .. } => (nos.value, lof.value, 0),
+        Frame::Sc { nos, scq, .. } => (nos.value, u32::from(scq.action), 0),
+        Frame::LastSection { nos, lsq, chs, .. } => (nos.value, u32::from(lsq.value), chs.value),
+        Frame::Ack { nos, afq, .. } => (nos.value, u32::from(afq.action), 0),
+        Frame::Segment { nos, los, .. } => (nos.value, u32::from(los.value), 0),
+        Frame::Directory { .. } | Frame::QueryLog { .. } => (0, 0, 0),
     }
-}
-
-// The action, length or value of a frame, or 0.
-fn qualifier_of(frame: Frame) -> u32
-    ensures { result ≡ qualifier frame }
-{
-    match frame {
-        Frame::FileReady { lof, .. } => lof.value,
-        Frame::SectionReady { lof, .. } => lof.value,
-        Frame::Sc { scq, .. } => scq.action as u32,
-        Frame::LastSection { lsq, .. } => lsq.value as u32,
-        Frame::Ack { afq, .. } => afq.action as u32,
-        Frame::Segment { los, .. } => los.value as u32,
-        Frame::Directory { .. } => 0,
-        Frame::QueryLog { .. } => 0,
-    }
-}
-
-// The checksum that a frame states, or 0.
-fn sum_of(frame: Frame) -> u8
-    ensures { result ≡ stated_sum frame }
-{
-    match frame {
-        Frame::LastSection { chs, .. } => chs.value,
-        Frame::FileReady { .. } => 0,
-        Frame::SectionReady { .. } => 0,
-        Frame::Sc { .. } => 0,
-        Frame::Ack { .. } => 0,
-        Frame::Segment { .. } => 0,
-        Frame::Directory { .. } => 0,
-        Frame::QueryLog { .. } => 0,
-    }
-}
-
-// Puts an octet at the place, and answers the place after it.
-fn put(out: &mut [u8], at: usize, octet: u8) -> usize
-    requires { at < length out.old }
-    ensures { Put out.old at (octet ∷ []) result out.new }
-{
-    out[at] = octet;
-    at + 1
-}
-
-// Puts a number's digits, of which there are at most 10: it calls itself once for each.
-fn put_decimal(out: &mut [u8], at: usize, n: u32) -> usize
-    requires { at + length (decimal n) ≤ length out.old }
-    ensures { Put out.old at (decimal n) result out.new }
-{
-    if n <= 9 {
-        return put(out, at, b'0' + n as u8);
-    }
-    let last = put_decimal(out, at, n / 10);
-    put(out, last, b'0' + (n % 10) as u8)
-}
-
-// Puts a number after one space.
-fn put_field(out: &mut [u8], at: usize, n: u32) -> usize
-    requires { at + length (32 ∷ decimal n) ≤ length out.old }
-    ensures { Put out.old at (32 ∷ decimal n) result out.new }
-{
-    let next = put(out, at, b' ');
-    put_decimal(out, next, n)
 }
 
 // Puts a number after one space into a text, if it has room for both there, and answers the place after
 // what it put: the same place where that is nothing.
+#[tactic(auto, using(crate::proofs::Numbers::numbers))]
 pub fn put_number(out: &mut [u8], at: usize, n: u32) -> usize
     ensures { (result ≡ place_after out.old at (32 ∷ decimal n)) × (out.new ≡ text_with out.old at (32 ∷ decimal n)) }
 {
-    let mut field = [0u8; 16];
-    let length = put_field(&mut field, 0, n);
-    if store::write_at(out, at, 0, &field[..length]) {
-        return at + length;
+    let mut buffer = Buffer::new();
+    let digits = buffer.format(n).as_bytes();
+    if out.len() <= at || out.len() - at <= digits.len() {
+        return at;
     }
-    at
+    out[at] = b' ';
+    out[at + 1..at + 1 + digits.len()].copy_from_slice(digits);
+    at + 1 + digits.len()
 }
 
-// Writes a line, which is at most 25 octets long, over the front of out, and answers its length.
-fn put_line(out: &mut [u8; 32], letter: u8, kind: u8, section: u8, value: u32, sum: u8) -> usize
-    ensures { Put out.old 0 (fields_text letter (kind ∷ section ∷ value ∷ sum ∷ [])) result out.new }
-{
-    let mut at = put(out, 0, letter);
-    at = put_field(out, at, kind as u32);
-    at = put_field(out, at, section as u32);
-    at = put_field(out, at, value);
-    at = put_field(out, at, sum as u32);
-    put(out, at, b'\n')
-}
-
-// Writes the line of a frame over the front of out, and answers its length.
+// Writes the line of a frame, which is at most 25 octets long, over the front of out, and answers its length. It
+// goes into a lent array, and no vector is made: fixed memory is a rule of the project.
 pub fn line(sender: Sender, frame: Frame, out: &mut [u8; 32]) -> usize
-    ensures { (result ≡ length (line_text (side_of sender) frame)) × (out.new ≡ over (line_text (side_of sender) frame) out.old) }
+    ensures { (result ≡ length (line_text (side_of sender) frame)) × (out.new ≡ over (line_text (side_of sender) frame) out.old) × (result ≤ 25) }
 {
-    let letter = letter_of(sender);
-    let kind = frame.type_id();
-    let section = section_of(frame);
-    let value = qualifier_of(frame);
-    put_line(out, letter, kind, section, value, sum_of(frame))
+    let (section, value, sum) = fields_of(frame);
+    out[0] = letter_of(sender);
+    let mut at = 1;
+    for n in [
+        u32::from(frame.type_id()),
+        u32::from(section),
+        value,
+        u32::from(sum),
+    ] {
+        at = put_number(out, at, n);
+    }
+    out[at] = b'\n';
+    at + 1
 }

@@ -5,6 +5,7 @@ use mathlib.Core.List.{List, ◌++◌}
 use native.Mathlib.Omega.{arith}
 use lib.ListN.{length, drop}
 use borrow.Author.Tests.{le-leb}
+use Rattle.std.specs.Prelude.{Ok}
 use Rattle.laws.specs.When.{when}
 use Rattle.asdu.specs.Sizes.{within, sizes_right, max_common_address, max_ioa}
 use Rattle.ft.specs.Procedure.{address_right, addressed}
@@ -12,7 +13,7 @@ use Rattle.script.specs.Script.{text_of}
 use Rattle.script.specs.Reader.{script_of}
 use Rattle.twoparty.specs.declared.Settings.{Settings}
 use Rattle.run.specs.Run.{script_frames}
-use Rattle.run.specs.declared.RunResult.TheVariants.{Whole}
+use Rattle.run.specs.declared.Ending.TheVariants.{Whole}
 use Rattle.run.proofs.Running.{Accepted}
 use Rattle.run.proofs.Endings.{run_whole}
 use Rattle.run.proofs.Longest.{longest}
@@ -39,11 +40,11 @@ load_accepted l w store room =
 
 pub load_whole : (l : Load) → Within l → (store : List ℕ) → l.octets ≤ length store
     → played store (script_of (text_of (script_for l)))
-    ≡ record { result = Whole l.octets (script_frames settings (file_of l) (damage_of l)); store = file_of l ++ drop l.octets store }
+    ≡ record { result = (Ok (Whole l.octets (script_frames settings (file_of l) (damage_of l)))); store = file_of l ++ drop l.octets store }
 load_whole l w store room =
     let right = script_right l w in
     let few = longest settings (file_of l) (damage_of l) refl right.file_length right.damage_length in
     let frames : ℕ = script_frames settings (file_of l) (damage_of l) in
     rw (load_script_read l w)
     (run_whole settings (file_of l) (damage_of l) store (load_accepted l w store room) 65535 (omega arith)
-    ∙ ap (λ (n : ℕ). record { result = Whole n frames; store = file_of l ++ drop n store }) (sym (file_length l)))
+    ∙ ap (λ (n : ℕ). record { result = (Ok (Whole n frames)); store = file_of l ++ drop n store }) (sym (file_length l)))

@@ -2,34 +2,26 @@
 // and the damage list's entries; the transfer script of that load on standard output, for the transfer program.
 #![tactic(auto)]
 
-use asdu::FtError;
-use load_script::TextResult;
+use output::Output;
+use std::fmt::Write;
 
 // Standard input.
 const STDIN: i32 = 0;
 
-// Standard output.
-const STDOUT: i32 = 1;
+// More octets than any load has: an input that is longer is none, and nor is what is read of it.
+const LONGEST: usize = 4096;
 
-// `refused` and its number, as the transfer program says it.
-fn refused(error: FtError) {
-    io::write_all(STDOUT, b"refused ");
-    io::print_decimal(STDOUT, error.number() as u64);
-    io::write_all(STDOUT, b"\n");
-}
-
-// Prints the first octets of a buffer.
-fn print(text: &[u8; 65536], length: usize) {
-    io::write_all(STDOUT, sections::cut(text, 0, length));
-}
-
-// An input longer than the buffer is longer than any load, and so is its front.
+// Prints the script, or `refused` and a number as the transfer program does. Its buffers are arrays: no heap, fixed
+// memory. Nobody is left to tell where the output cannot be written.
 fn main() {
-    let mut input = io::buffer();
+    let mut input = [0; LONGEST];
     let length = io::read_full(STDIN, &mut input);
-    let mut out = io::large_buffer();
-    match load_script::write(&input[..length], &mut out) {
-        TextResult::Ok(count) => print(&out, count),
-        TextResult::Err(error) => refused(error),
+    let mut script = [0; 65536];
+    match load_script::write(&input[..length], &mut script) {
+        Ok(count) => output::octets(&script[..count]),
+        Err(error) => {
+            let number = error.number();
+            let _ = writeln!(Output, "refused {number}");
+        }
     }
 }

@@ -1,65 +1,17 @@
--- A text's three numbers, stage by stage; and exactly the texts of loads within their fields are loads.
+-- Exactly the texts of loads within their fields are loads.
 use Prim.Native.Nat.{ℕ, ◌≤◌}
-use mathlib.Core.Bool.{true, false}
+use mathlib.Core.Bool.{false}
 use mathlib.Core.Path.{◌≡◌, refl, sym, ap, ◌∙◌}
-use mathlib.Core.Option.{Option, none, some}
 use mathlib.Core.List.{List, [], ◌∷◌, ◌++◌, append_assoc, append-nil}
-use native.Mathlib.Omega.{arith}
 use lib.ListN.{drop}
+use Rattle.std.specs.Prelude.{Some}
 use Rattle.laws.proofs.Decide.{whens}
 use Rattle.script.specs.Decimal.{decimal}
-use Rattle.script.specs.Reader.{nothing, found, begins, begins_digit, number, spaced_number, ends}
+use Rattle.script.specs.Reader.{found, begins, begins_digit, number, spaced_number}
 use Rattle.script.proofs.NumberLaws.{after_text, after_found}
 use Rattle.script.proofs.Meaning.{then_found, moved, no_digit, ends_newline, whole_found}
 use Rattle.load_script.specs.Load.{Within, load_text, load_body, load_of}
-use Rattle.load_script.specs.Answers.{read_as}
 use Rattle.load_script.specs.declared.Load.{Load}
-use Rattle.load_script.specs.declared.LoadRead.TheVariants.{Is, Nothing}
-
--- ---- stage by stage
-
-module _ (t : List ℕ) where
-  pub no_state : nothing ≡ number 4294967295 t → load_of t ≡ none
-  unfolding load_of load_body
-  no_state e = rw (← e)
-
-  module _ {state : ℕ} {t₁ : List ℕ} (e₁ : found state t₁ ≡ number 4294967295 t) where
-    pub no_octets : nothing ≡ spaced_number 8192 t₁ → load_of t ≡ none
-    unfolding load_of load_body
-    no_octets e = rw (← e₁, ← e)
-
-    module _ {octets : ℕ} {t₂ : List ℕ} (e₂ : found octets t₂ ≡ spaced_number 8192 t₁) where
-      pub no_entries : nothing ≡ spaced_number 255 t₂ → load_of t ≡ none
-      unfolding load_of load_body
-      no_entries e = rw (← e₁, ← e₂, ← e)
-
-      module _ {entries : ℕ} {t₃ : List ℕ} (e₃ : found entries t₃ ≡ spaced_number 255 t₂) where
-        pub no_end : ends t₃ ≡ false → load_of t ≡ none
-        unfolding load_of load_body
-        no_end e = rw (← e₁, ← e₂, ← e₃) (simp (whens, e))
-
-        pub whole : ends t₃ ≡ true → load_of t ≡ some (record { state = state; octets = octets; entries = entries })
-        unfolding load_of load_body
-        whole e = rw (← e₁, ← e₂, ← e₃) (simp (whens, e))
-
-pub read_none : (t : List ℕ) → load_of t ≡ none → Nothing ≡ read_as (load_of t)
-unfolding read_as
-read_none t e = rw e
-
-pub read_some : (t : List ℕ) (l : Load) → load_of t ≡ some l → Is l ≡ read_as (load_of t)
-unfolding read_as
-read_some t l e = rw e
-
--- and from what the reader hands on to the load
-pub told_some : (m : Option Load) (l : Load) → Is l ≡ read_as m → m ≡ some l
-unfolding read_as
-told_some none l e = let z : ◌≡◌ {A = ℕ} 0 1 = cc in absurd (omega arith)
-told_some (some x) l e = let p : l ≡ x = cc in rw p
-
-pub told_none : (m : Option Load) → Nothing ≡ read_as m → m ≡ none
-unfolding read_as
-told_none none e = refl
-told_none (some x) e = let z : ◌≡◌ {A = ℕ} 0 1 = cc in absurd (omega arith)
 
 -- ---- a load's text is read
 
@@ -72,8 +24,8 @@ space_first : (t : List ℕ) → begins_digit (32 ∷ t) ≡ false
 unfolding begins_digit
 space_first t = simp whens
 
-pub load_read : (l : Load) → Within l → load_of (load_text l) ≡ some l
-unfolding load_text
+pub load_read : (l : Load) → Within l → load_of (load_text l) ≡ Some l
+unfolding load_text load_of load_body
 load_read l w =
     let t₃ : List ℕ = 10 ∷ [] in
     let t₂ : List ℕ = 32 ∷ (decimal l.entries ++ t₃) in
@@ -81,7 +33,7 @@ load_read l w =
     let e₁ = sym (behind_space 4294967295 (decimal l.state ++ t₁)) ∙ after_text 4294967295 l.state t₁ w.state (space_first _) in
     let e₂ = after_text 8192 l.octets t₂ w.octets (space_first _) in
     let e₃ = after_text 255 l.entries t₃ w.entries no_digit in
-    simp (append_assoc, append-nil) (whole _ (sym e₁) (sym e₂) (sym e₃) ends_newline)
+    simp (append_assoc, append-nil) (rw (e₁, e₂, e₃) (simp (whens, ends_newline)))
 
 -- ---- what is read is a load's text
 
@@ -108,6 +60,6 @@ body_found t l rest h =
     moved (Read t) c.then
     (load_text_lem t a.left b.left c.left a.first b.first c.first (number_found 4294967295 a.first a.left t a.was) (after_found 8192 b.first b.left a.left b.was) (after_found 255 c.first c.left b.left c.was))
 
-pub read_load : (t : List ℕ) (l : Load) → load_of t ≡ some l → Within l × (t ≡ load_text l)
+pub read_load : (t : List ℕ) (l : Load) → load_of t ≡ Some l → Within l × (t ≡ load_text l)
 unfolding load_of
 read_load t l h = let r = body_found t l (10 ∷ []) (whole_found (load_body t) l h) in (r.within, r.text refl)

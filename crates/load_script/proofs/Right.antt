@@ -1,8 +1,8 @@
 -- The script of a load is right: the transfer program reads it back, and no entry of its damage is refused by 11 (document 02, A2).
+use Rattle.std.specs.Prelude.{Some}
 use Prim.Native.Nat.{ℕ, zero, suc, ◌<◌}
 use mathlib.Core.Bool.{true}
 use mathlib.Core.Path.{◌≡◌, ap, ◌∙◌}
-use mathlib.Core.Option.{some}
 use mathlib.Core.List.{List, [], ◌∷◌, map}
 use native.Mathlib.Nat.{mod-lt}
 use native.Mathlib.Omega.{arith}
@@ -57,7 +57,7 @@ script_right l w =
     }
 
 -- so its text means it
-pub load_script_read : (l : Load) → Within l → script_of (text_of (script_for l)) ≡ some (script_for l)
+pub load_script_read : (l : Load) → Within l → script_of (text_of (script_for l)) ≡ Some (script_for l)
 load_script_read l w = right_read (script_for l) (script_right l w)
 
 -- each section that its damage names has octets

@@ -10,7 +10,7 @@ use Rattle.store.specs.Store.{written}
 use Rattle.script.specs.Decimal.{decimal, spaced}
 use Rattle.lines.specs.Numbers.{place_after, text_with}
 use Rattle.lines.specs.Putting.{Put}
-use Rattle.lines.proofs.Writing.{put_then}
+use Rattle.lines.proofs.Writing.{put_then, octet_most}
 use Rattle.lines.proofs.Numbers.{put_with_room}
 use Rattle.script.proofs.Decimals.{digits_most}
 use Rattle.script.proofs.Meaning.{spaced-append}
@@ -27,6 +27,15 @@ put_after f h g = put_then f g (omega (arith, f.end))
 -- one number more
 pub spaced_next : (xs : List ℕ) (i : ℕ) → i < length xs → spaced (take i xs) ++ (32 ∷ decimal (get_or xs i 0)) ≡ spaced (take (i + 1) xs)
 spaced_next xs i h = rw (add-one, take-suc xs i 0 h, spaced-append) (simp append-nil)
+
+-- an octet takes four octets at most
+pub octet_put : {xs ys : List ℕ} {at next x : ℕ} → x ≤ 255 → at + 4 ≤ length xs
+    → (next ≡ place_after xs at (32 ∷ decimal x)) × (ys ≡ text_with xs at (32 ∷ decimal x))
+    → (next ≤ at + 4) × Put xs at (32 ∷ decimal x) next ys
+octet_put {xs} {ys} {at} {next} {x} small room said =
+    let few = octet_most x (omega arith) in
+    let put : Put xs at (32 ∷ decimal x) next ys = put_with_room said (omega arith) in
+    (omega (arith, put.end), put)
 
 -- a number of at most four digits takes five octets at most
 pub count_put : {xs ys : List ℕ} {at next k : ℕ} → k ≤ 9999 → at + 5 ≤ length xs

@@ -1,6 +1,5 @@
 -- A test load for the radio bench as text, and the transfer script that it stands for (document 02, A2).
-use Rattle.std.specs.Prelude.{ℕ, ◌≤◌, List, [], ◌∷◌, ◌++◌}
-use Rattle.std.proofs.Math.Option.{Option}
+use Rattle.std.specs.Prelude.{ℕ, ◌≤◌, List, [], ◌∷◌, ◌++◌, Option}
 use Rattle.script.specs.Decimal.{decimal, spaced}
 use Rattle.script.specs.Script.{max_file, max_damage, Script}
 use Rattle.script.specs.Reader.{Found, found, then_read, number, spaced_number, whole_text}

@@ -3,19 +3,18 @@
 // The generator fills the file, goes on to the damage list, and the script of both is written as text.
 #![tactic(auto)]
 
-ghost use Rattle.std.specs.Prelude.{◌≡◌, [], ◌∷◌, ◌++◌, ◌+◌, ◌*◌, ◌≤◌, length};
+ghost use Rattle.std.specs.Prelude.{◌≡◌, [], ◌∷◌, ◌++◌, ◌+◌, ◌*◌, ◌≤◌, length, IfSome, IfOk};
 ghost use Rattle.script.specs.Decimal.{decimal, spaced};
 ghost use Rattle.script.specs.Script.{text_of};
 ghost use Rattle.script.specs.Answers.{over};
 ghost use Rattle.lines.specs.Putting.{Put};
 ghost use Rattle.load_script.specs.Load.{load_of, object, name, after_file, file_of, damage_of, script_with, script_for};
-ghost use Rattle.load_script.specs.Answers.{read_as, answer_of, text_after};
+ghost use Rattle.load_script.specs.Answers.{answer_of, text_after};
 
 use asdu::FtError;
-use generator::{DamageResult, FileResult, Generator};
+use generator::{Damage, Generator};
 use lines::put_number;
-use script::read;
-use script::read::Reading;
+use script::read::{MAX_DAMAGE, MAX_FILE, Reader};
 
 // The largest state.
 const MAX_STATE: u32 = 0xFFFF_FFFF;
@@ -27,79 +26,85 @@ const NAME: u32 = 7;
 
 // A test load: the generator's state before it, how many octets the file has, and for how many entries
 // the damage list has places.
-#[derive(Clone, Copy)]
+#[derive(Clone, Copy, PartialEq, Eq)]
 pub struct Load {
     pub state: u32,
     pub octets: u32,
     pub entries: u32,
 }
 
-// What writing a load's script answers: the length of its text; or why nothing was written.
-#[derive(Clone, Copy)]
-pub enum TextResult {
-    Ok(usize),
-    Err(FtError),
-}
-
-// The load that a text is, or that it is none.
-#[derive(Clone, Copy)]
-enum LoadRead {
-    Is(Load),
-    Nothing,
-}
-
-// Reads a load.
-fn read_load(text: &[u8]) -> LoadRead
-    ensures { result ≡ read_as (load_of text.now) }
-{
-    let first = read::number_at(text, 0, MAX_STATE);
-    let Reading::Number { value: state, next } = first else {
-        return LoadRead::Nothing;
-    };
-    let second = read::after_at(text, next, read::MAX_FILE);
-    let Reading::Number {
-        value: octets,
-        next,
-    } = second
-    else {
-        return LoadRead::Nothing;
-    };
-    let third = read::after_at(text, next, read::MAX_DAMAGE);
-    let Reading::Number {
-        value: entries,
-        next,
-    } = third
-    else {
-        return LoadRead::Nothing;
-    };
-    if read::is_end(text, next) {
-        return LoadRead::Is(Load {
+// A load's bounds are asked for where they count, and are no invariant of the type: its definitions take any three
+// numbers.
+impl Load {
+    // Reads a load.
+    #[tactic(auto, using(laws::proofs::Decide::whens), unfolding(crate::specs::Load::load_of, crate::specs::Load::load_body))]
+    fn read(text: &[u8]) -> Option<Load>
+        ensures found { result ≡ load_of text.now }
+        ensures within { IfSome result (λ l. (l.octets ≤ 8192) × (l.entries ≤ 255)) }
+    {
+        let mut reader = Reader { rest: text };
+        let state = reader.number(MAX_STATE)?;
+        let octets = reader.spaced_number(MAX_FILE)?;
+        let entries = reader.spaced_number(MAX_DAMAGE)?;
+        if !reader.is_end() {
+            return None;
+        }
+        Some(Load {
             state,
             octets,
             entries,
-        });
+        })
     }
-    LoadRead::Nothing
+
+    // Its file, in the front of a buffer, and the generator after it.
+    #[tactic(auto, using(crate::proofs::Filling::filling))]
+    fn file(self, buffer: &mut [u8; 8192]) -> (Generator, &[u8])
+        requires { self.octets ≤ 8192 }
+        ensures { (result.0 ≡ after_file self) × (result.1.now ≡ file_of self) }
+    {
+        let begun = Generator { state: self.state };
+        let file = &mut buffer[..self.octets as usize];
+        let Ok(after) = begun.fill_file(file) else {
+            unreachable!();
+        };
+        (after, file)
+    }
+
+    // Its damage list, in the front of a buffer, from the generator after the file.
+    #[tactic(auto, using(crate::proofs::Filling::filling))]
+    fn damage(self, after: Generator, buffer: &mut [u8; 255]) -> &[u8]
+        requires { (self.octets ≤ 8192) × (self.entries ≤ 255) × (after ≡ after_file self) }
+        ensures { result.now ≡ damage_of self }
+    {
+        let places = &mut buffer[..self.entries as usize];
+        let Ok(Damage { count, .. }) = after.fill_damage(self.octets as usize, places) else {
+            unreachable!();
+        };
+        &places[..count as usize]
+    }
+
+    // Writes its script over the front of out, and answers its length.
+    #[tactic(auto, using(crate::proofs::Filling::lengths))]
+    fn write(self, out: &mut [u8; 65536]) -> usize
+        requires { (self.octets ≤ 8192) × (self.entries ≤ 255) }
+        ensures { (result ≡ length (text_of (script_for self))) × (out.new ≡ over (text_of (script_for self)) out.old) × (result ≤ 33810) }
+    {
+        let mut file = [0u8; 8192];
+        let mut damage = [0u8; 255];
+        let (after, file) = self.file(&mut file);
+        let damage = self.damage(after, &mut damage);
+        put_script(out, file, damage)
+    }
 }
 
-// Puts an octet as a number after one space, which takes four octets at most.
-fn put_octet(out: &mut [u8], at: usize, octet: u8) -> usize
-    requires { at + 4 ≤ length out.old }
-    ensures { (result ≤ at + 4) × Put out.old at (32 ∷ decimal octet) result out.new }
-{
-    put_number(out, at, octet as u32)
-}
-
-// Puts octets as numbers, each after one space.
+// Puts octets as numbers, each after one space, which take four octets each at most.
 fn put_octets(out: &mut [u8], at: usize, octets: &[u8]) -> usize
     requires { at + 4 * length octets.now ≤ length out.old }
     ensures { (result ≤ at + 4 * length octets.now) × Put out.old at (spaced octets.now) result out.new }
 {
     let mut next = at;
-    let mut i = 0;
-    while i < octets.len() {
-        next = put_octet(out, next, octets[i]);
-        i += 1;
+    for octet in octets {
+        next = put_number(out, next, u32::from(*octet));
     }
     next
 }
@@ -126,7 +131,7 @@ fn put_settings(out: &mut [u8]) -> usize
 // Puts a script's text, of at most 33,810 octets, over the front of out.
 fn put_script(out: &mut [u8], file: &[u8], damage: &[u8]) -> usize
     requires { (length file.now ≤ 8192) × (length damage.now ≤ 255) × (33810 ≤ length out.old) }
-    ensures { Put out.old 0 (text_of (script_with file.now damage.now)) result out.new }
+    ensures { (result ≤ 33810) × Put out.old 0 (text_of (script_with file.now damage.now)) result out.new }
 {
     let mut at = put_settings(out);
     at = put_counted(out, at, file);
@@ -135,53 +140,15 @@ fn put_script(out: &mut [u8], file: &[u8], damage: &[u8]) -> usize
     at + 1
 }
 
-// Fills the front of a buffer with the load's file, and answers the generator after it.
-fn fill_file(load: Load, file: &mut [u8]) -> Generator
-    requires { (load.octets ≤ 8192) × (load.octets ≤ length file.old) }
-    ensures { (result ≡ after_file load) × (file.new ≡ over (file_of load) file.old) }
-{
-    let generator = Generator { state: load.state };
-    match generator.fill_file(&mut file[..load.octets as usize]) {
-        FileResult::Ok(after) => after,
-        FileResult::Err(_) => generator,
-    }
-}
-
-// Fills the front of a buffer with the load's damage list, from the generator after the file, and answers
-// how many entries it has.
-fn fill_damage(load: Load, generator: Generator, damage: &mut [u8]) -> u8
-    requires { (load.octets ≤ 8192) × (load.entries ≤ length damage.old) × (generator ≡ after_file load) }
-    ensures { (result ≡ length (damage_of load)) × (damage.new ≡ over (damage_of load) damage.old) }
-{
-    match generator.fill_damage(load.octets as usize, &mut damage[..load.entries as usize]) {
-        DamageResult::Ok { count, .. } => count,
-        DamageResult::Err(_) => 0,
-    }
-}
-
-// Writes the load's script over the front of out, and answers its length.
-fn write_load(load: Load, out: &mut [u8; 65536]) -> usize
-    requires { (load.octets ≤ 8192) × (load.entries ≤ 255) }
-    ensures { (result ≡ length (text_of (script_for load))) × (out.new ≡ over (text_of (script_for load)) out.old) }
-{
-    let mut file = [0u8; 8192];
-    let mut damage = [0u8; 255];
-    let generator = fill_file(load, &mut file);
-    let count = fill_damage(load, generator, &mut damage);
-    put_script(
-        out,
-        &file[..load.octets as usize],
-        &damage[..count as usize],
-    )
-}
-
 // Writes the script of the load that the text is over the front of out, and answers its length. A text that
-// is no load is 11, and nothing is written.
-pub fn write(text: &[u8], out: &mut [u8; 65536]) -> TextResult
-    ensures { (result ≡ answer_of (load_of text.now)) × (out.new ≡ text_after (load_of text.now) out.old) }
+// is no load is 11, and nothing is written. Files, lists and texts are lent arrays: fixed memory is a rule of
+// the project.
+#[tactic(auto, unfolding(crate::specs::Answers::answer_of, crate::specs::Answers::text_after))]
+pub fn write(text: &[u8], out: &mut [u8; 65536]) -> Result<usize, FtError>
+    ensures { (result ≡ answer_of (load_of text.now)) × (out.new ≡ text_after (load_of text.now) out.old) × IfOk result (λ n. n ≤ 33810) }
 {
-    match read_load(text) {
-        LoadRead::Is(load) => TextResult::Ok(write_load(load, out)),
-        LoadRead::Nothing => TextResult::Err(FtError::ScriptMisshapen),
-    }
+    let Some(load) = Load::read(text) else {
+        return Err(FtError::ScriptMisshapen);
+    };
+    Ok(load.write(out))
 }

@@ -1,214 +1,100 @@
 // Calls of the Provider that is kept, over the file.
-use crate::kept;
-use crate::kept::{PARTY_PROVIDER, PROVIDER};
-use asdu::Nos;
-use provide::{CountResult, FrameResult, PartResult, Provider, ProviderResult, ProviderStep};
-use requests::{ProviderAnswer, Reply};
+use asdu::{Afq, Nof, Nos, Scq};
+use ft::Incoming;
+use kept::Kept;
+use provide::Provider;
+use requests::Reply;
 use sections::Part;
-use station_calls::kept::STATION;
-use station_calls::{kept as held, stations};
-use values::{make, show};
-use words::{Numbers, Octets, put, read, text, u8_at, u32_at, write};
+use shown::numbers::Spaced;
+use shown::{answer, answer_word, keep};
+use std::fmt;
+use words::numbers::Beside;
+use words::{Answered, Unanswered, Words};
 
-// ---- What is answered
-
-fn running(reply: Reply) {
-    let numbers = kept::reply_numbers(reply);
-    write::answer(write::RUNNING_REPLY, numbers[0], numbers[1], 0);
+// Sets a field, or takes the station or the transfer's Provider.
+fn set<W: fmt::Write>(words: &mut Words<'_>, kept: &mut Kept, out: &mut W) -> Answered {
+    match words.word()? {
+        "ioa" => kept.provider.ioa = words.value()?,
+        "nof" => kept.provider.nof = words.value()?,
+        "length" => kept.provider.length = words.value()?,
+        "section_len" => kept.provider.section_len = words.value()?,
+        "unmatched" => kept.provider.unmatched = words.value()?,
+        "done" => kept.provider.done = words.value()?,
+        "station" => kept.provider.procedure = kept.station,
+        "party" => kept.provider = kept.party.provider,
+        _ => return Err(Unanswered::Unread),
+    }
+    answer_word("set", out)
 }
 
-fn ended(which: u8, action: u8, error: u8) {
-    write::answer(which, action as u64, error as u64, 0);
+fn new<W: fmt::Write>(words: &mut Words<'_>, kept: &mut Kept, out: &mut W) -> Answered {
+    let ioa: u32 = words.value()?;
+    let nof: Nof = words.value()?;
+    let made = Provider::new(kept.station, ioa, nof, &kept.file);
+    keep(made, &mut kept.provider, "made", out)
 }
 
-fn answered(answer: ProviderAnswer) {
-    match answer {
-        ProviderAnswer::Running(reply) => running(reply),
-        ProviderAnswer::Complete => write::word(write::COMPLETE),
-        ProviderAnswer::Deactivated { scq } => ended(write::DEACTIVATED, scq.action, scq.error),
-        ProviderAnswer::FileRejected { afq } => ended(write::FILE_REJECTED, afq.action, afq.error),
-        ProviderAnswer::Refused { cause, mirror } => write::sent_back(cause, mirror),
-        ProviderAnswer::Err(error) => write::refused(error),
+fn on_asdu<W: fmt::Write>(words: &mut Words<'_>, kept: &mut Kept, out: &mut W) -> Answered {
+    let incoming: Incoming = words.value()?;
+    let Beside(beside) = words.value()?;
+    let step = kept.provider.on_asdu(&kept.file, incoming, &beside);
+    kept.provider = step.provider;
+    answer(step.answer, out)
+}
+
+// ---- Replies
+
+fn reply_count<W: fmt::Write>(words: &mut Words<'_>, kept: &Kept, out: &mut W) -> Answered {
+    let reply: Reply = words.value()?;
+    answer(kept.provider.reply_count(&kept.file, reply), out)
+}
+
+fn reply_frame<W: fmt::Write>(words: &mut Words<'_>, kept: &Kept, out: &mut W) -> Answered {
+    let reply: Reply = words.value()?;
+    let index: usize = words.value()?;
+    answer(kept.provider.reply_frame(&kept.file, reply, index), out)
+}
+
+fn reply_payload<W: fmt::Write>(words: &mut Words<'_>, kept: &Kept, out: &mut W) -> Answered {
+    let reply: Reply = words.value()?;
+    let index: usize = words.value()?;
+    answer(kept.provider.reply_payload(&kept.file, reply, index), out)
+}
+
+// ---- Calls
+
+// Answers a call of the Provider that is kept.
+pub fn call<W: fmt::Write>(words: &mut Words<'_>, kept: &mut Kept, out: &mut W) -> Answered {
+    match words.word()? {
+        "new" => new(words, kept, out),
+        "set" => set(words, kept, out),
+        "show" => answer(kept.provider, out),
+        "file" => answer(kept.provider.file(), out),
+        "agrees" => answer(kept.provider.agrees(&kept.file), out),
+        "announce" => answer(kept.provider.announce(&kept.file), out),
+        "on_asdu" => on_asdu(words, kept, out),
+        "reply_count" => reply_count(words, kept, out),
+        "reply_frame" => reply_frame(words, kept, out),
+        "reply_payload" => reply_payload(words, kept, out),
+        "part" => answer(Spaced(words.value::<Part>()?.octets(&kept.file)), out),
+        _ => Err(Unanswered::Unread),
     }
 }
 
-fn frame(res: FrameResult) {
-    match res {
-        FrameResult::Ok(frame) => show::frame(frame),
-        FrameResult::Err(error) => write::refused(error),
-    }
-}
-
-fn count(res: CountResult) {
-    match res {
-        CountResult::Ok(n) => write::one(n as u64),
-        CountResult::Err(error) => write::refused(error),
-    }
-}
-
-fn part(res: PartResult) {
-    match res {
-        PartResult::Ok(part) => write::answer(write::TWO, part.start as u64, part.length as u64, 0),
-        PartResult::Err(error) => write::refused(error),
-    }
-}
-
-// The fields of a Provider's record from a place on.
-pub fn show_record(regs: &Numbers, from: u8) {
-    write::pattern(
-        b"station @r @s @n @n @n @n @n ioa @n nof @n length @n section_len @n unmatched @n done @n",
-        regs,
-        from,
-    );
-}
-
-// ---- Calls that leave the record
-
-fn name(provider: Provider) {
-    let name = provider.file();
-    let nof = name.nof;
-    write::answer(write::TWO, name.ioa as u64, nof.value as u64, 0);
-}
-
-fn of_reply(which: u8, provider: Provider, file: &[u8], reply: Reply, index: usize) {
-    match which {
-        12 => count(provider.reply_count(file, reply)),
-        13 => frame(provider.reply_frame(file, reply, index)),
-        _ => part(provider.reply_payload(file, reply, index)),
-    }
-}
-
-fn of_provider(which: u8, provider: Provider, file: &[u8], args: &Numbers) {
-    match which {
-        9 => name(provider),
-        10 => write::yes_or_no(provider.agrees(file)),
-        11 => frame(provider.announce(file)),
-        _ => of_reply(
-            which,
-            provider,
-            file,
-            kept::reply(args, 0),
-            args[2] as usize,
-        ),
-    }
-}
-
-// The octets of a part of the file.
-fn octets(file: &[u8], args: &Numbers) {
-    let part = Part {
-        start: args[0] as usize,
-        length: args[1] as usize,
-    };
-    write::octets(part.octets(file));
-}
-
-fn answer(which: u8, regs: &Numbers, file: &[u8], args: &Numbers) {
-    match which {
-        8 => show_record(regs, PROVIDER),
-        15 => octets(file, args),
-        _ => of_provider(which, kept::provider(regs, PROVIDER), file, args),
-    }
-}
-
-// ---- Calls that change the record
-
-// Keeps a Provider that was made.
-fn made(regs: &mut Numbers, res: ProviderResult) {
-    match res {
-        ProviderResult::Ok(provider) => {
-            kept::keep_provider(regs, PROVIDER, provider);
-            write::word(write::MADE);
+// Answers a call of a Provider's decision alone, on a request or an acknowledgement.
+pub fn decide<W: fmt::Write>(words: &mut Words<'_>, out: &mut W) -> Answered {
+    match words.word()? {
+        "on_sc" => {
+            let nos: Nos = words.value()?;
+            let scq: Scq = words.value()?;
+            answer(requests::on_sc(nos, scq), out)
         }
-        ProviderResult::Err(error) => write::refused(error),
+        "on_ack" => {
+            let sections: u8 = words.value()?;
+            let nos: Nos = words.value()?;
+            let afq: Afq = words.value()?;
+            answer(requests::on_ack(sections, nos, afq), out)
+        }
+        _ => Err(Unanswered::Unread),
     }
-}
-
-fn new(regs: &mut Numbers, file: &[u8], args: &Numbers) {
-    let station = held::station(regs, STATION);
-    let ioa = u32_at(args, 0, 0);
-    made(regs, Provider::new(station, ioa, make::nof(args, 1), file));
-}
-
-// Keeps the record after a step.
-fn stepped(regs: &mut Numbers, step: ProviderStep) {
-    let provider = step.provider;
-    let answer = step.answer;
-    kept::keep_provider(regs, PROVIDER, provider);
-    answered(answer);
-}
-
-fn on_asdu(regs: &mut Numbers, file: &[u8], args: &Numbers, octets: &[u8]) {
-    let provider = kept::provider(regs, PROVIDER);
-    let header = make::header(args, 0);
-    let unknown = make::unknown(args, 5);
-    let came = stations::received(args, 6);
-    stepped(regs, provider.on_asdu(file, header, unknown, came, octets));
-}
-
-// The decision alone, on a request or an acknowledgement.
-fn decided(which: u8, args: &Numbers) {
-    let first = u8_at(args, 0, 0);
-    let second = u8_at(args, 0, 1);
-    if which == 18 {
-        answered(requests::on_sc(Nos { value: first }, make::scq(args, 1)));
-    } else {
-        answered(requests::on_ack(first, Nos { value: second }, make::afq(args, 2)));
-    }
-}
-
-// Sets the field at this place, or takes other places' numbers.
-fn set(which: u8, regs: &mut Numbers, number: u64) {
-    match which {
-        6 => held::copy_within(regs, STATION, PROVIDER, held::STATION_PLACES),
-        7 => held::copy_within(regs, PARTY_PROVIDER, PROVIDER, kept::PROVIDER_PLACES),
-        _ => put(regs, kept::PROVIDER_FIELDS, which, number),
-    }
-    write::word(write::SET);
-}
-
-// Answers the line, if it is one of these calls.
-pub fn call(
-    line: &[u8],
-    regs: &mut Numbers,
-    args: &mut Numbers,
-    file: &[u8],
-    octets: &mut Octets,
-) -> bool {
-    let which = read::call(
-        line,
-        b"provider set ioa:4
-provider set nof:2
-provider set length:4
-provider set section_len:4
-provider set unmatched:4
-provider set done:f
-provider set station
-provider set party
-provider show
-provider file
-provider agrees
-provider announce
-provider reply_count:Y
-provider reply_frame:Y8
-provider reply_payload:Y8
-provider part:88
-provider new:42
-provider on_asdu:11f12uRb
-requests on_sc:111
-requests on_ack:1111",
-        args,
-        octets,
-    );
-    let count = args[read::COUNT];
-    let number = args[0];
-    let given = text::front(octets, count);
-    match which {
-        read::MISSING => return false,
-        0..=7 => set(which, regs, number),
-        16 => new(regs, file, args),
-        17 => on_asdu(regs, file, args, given),
-        18..=19 => decided(which, args),
-        _ => answer(which, regs, file, args),
-    }
-    true
 }

@@ -1,6 +1,8 @@
 // A maker for each frame of the file transfer, with the conventional widths: the frame and its header,
 // or 4 where a value is out of range, then 3 where an address is. It asks nothing of a station's
-// directions; a station's own `build` does (IEC 60870-5-101, 7.3.6, and 60870-5-104, 8.9).
+// directions; a station's own `build` does (IEC 60870-5-101, 7.3.6, and 60870-5-104, 8.9). Each takes what its
+// frame carries, field by field as the Rust's do: a struct for those that many share would be put together at
+// every call and taken apart at once.
 #![tactic(auto)]
 
 ghost use Rattle.std.specs.Prelude.{◌≡◌};
@@ -14,68 +16,99 @@ use asdu::{
     sizes,
 };
 use frame::Frame;
-use ft::{AsduResult, build};
+use ft::{Asdu, build};
 
 // A frame that nothing stands beside.
-fn alone(ca: u16, org: u8, frame: Frame) -> AsduResult
+fn alone(ca: u16, org: u8, frame: Frame) -> Result<Asdu, FtError>
     ensures { result ≡ made ca org frame }
 {
     build::frame_with(AddressSizes::CONVENTIONAL, ca, org, frame, &[])
 }
 
-// The call of a directory: action 0, as a request.
-pub fn call_directory(common_address: u16, originator: u8, ioa: u32, nof: Nof) -> AsduResult
-    ensures { result ≡ made common_address originator (F.Sc ioa nof (record { value = 0 }) (with_action 0)) }
+// A request with this action and no error.
+fn request<const ACTION: u8>(
+    ca: u16,
+    org: u8,
+    ioa: u32,
+    nof: Nof,
+    nos: Nos,
+) -> Result<Asdu, FtError>
+    ensures { result ≡ made ca org (F.Sc ioa nof nos (with_action ACTION)) }
 {
-    let nos = Nos { value: 0 };
     let scq = Scq {
-        action: Scq::CALL_DIRECTORY,
+        action: ACTION,
         error: 0,
     };
-    alone(common_address, originator, Frame::Sc { ioa, nof, nos, scq })
+    alone(ca, org, Frame::Sc { ioa, nof, nos, scq })
+}
+
+// The call of a directory: action 0, as a request.
+pub fn call_directory(
+    common_address: u16,
+    originator: u8,
+    ioa: u32,
+    nof: Nof,
+) -> Result<Asdu, FtError>
+    ensures { result ≡ made common_address originator (F.Sc ioa nof (record { value = 0 }) (with_action 0)) }
+{
+    request::<{ Scq::CALL_DIRECTORY }>(common_address, originator, ioa, nof, Nos { value: 0 })
 }
 
 // A select, call or deactivation with the caller's qualifier: 7 for the call of a directory.
-pub fn sc(common_address: u16, originator: u8, ioa: u32, nof: Nof, nos: Nos, scq: Scq) -> AsduResult
+#[tactic(auto, using(laws::proofs::Decide::decide), unfolding(crate::specs::Makers::sc_made))]
+pub fn sc(
+    common_address: u16,
+    originator: u8,
+    ioa: u32,
+    nof: Nof,
+    nos: Nos,
+    scq: Scq,
+) -> Result<Asdu, FtError>
     ensures { result ≡ sc_made common_address originator ioa nof nos scq }
 {
     if scq.action == Scq::CALL_DIRECTORY {
-        return AsduResult::Err(FtError::CallDirectoryAction);
+        return Err(FtError::CallDirectoryAction);
     }
     alone(common_address, originator, Frame::Sc { ioa, nof, nos, scq })
 }
 
 // A file is selected.
-pub fn select_file(common_address: u16, originator: u8, ioa: u32, nof: Nof, nos: Nos) -> AsduResult
+pub fn select_file(
+    common_address: u16,
+    originator: u8,
+    ioa: u32,
+    nof: Nof,
+    nos: Nos,
+) -> Result<Asdu, FtError>
     ensures { result ≡ made common_address originator (F.Sc ioa nof nos (with_action 1)) }
 {
-    let scq = Scq {
-        action: Scq::SELECT_FILE,
-        error: 0,
-    };
-    alone(common_address, originator, Frame::Sc { ioa, nof, nos, scq })
+    request::<{ Scq::SELECT_FILE }>(common_address, originator, ioa, nof, nos)
 }
 
 // A file is called.
-pub fn call_file(common_address: u16, originator: u8, ioa: u32, nof: Nof, nos: Nos) -> AsduResult
+pub fn call_file(
+    common_address: u16,
+    originator: u8,
+    ioa: u32,
+    nof: Nof,
+    nos: Nos,
+) -> Result<Asdu, FtError>
     ensures { result ≡ made common_address originator (F.Sc ioa nof nos (with_action 2)) }
 {
-    let scq = Scq {
-        action: Scq::REQUEST_FILE,
-        error: 0,
-    };
-    alone(common_address, originator, Frame::Sc { ioa, nof, nos, scq })
+    request::<{ Scq::REQUEST_FILE }>(common_address, originator, ioa, nof, nos)
 }
 
 // A section is called.
-pub fn call_section(common_address: u16, originator: u8, ioa: u32, nof: Nof, nos: Nos) -> AsduResult
+pub fn call_section(
+    common_address: u16,
+    originator: u8,
+    ioa: u32,
+    nof: Nof,
+    nos: Nos,
+) -> Result<Asdu, FtError>
     ensures { result ≡ made common_address originator (F.Sc ioa nof nos (with_action 6)) }
 {
-    let scq = Scq {
-        action: Scq::REQUEST_SECTION,
-        error: 0,
-    };
-    alone(common_address, originator, Frame::Sc { ioa, nof, nos, scq })
+    request::<{ Scq::REQUEST_SECTION }>(common_address, originator, ioa, nof, nos)
 }
 
 // A file is ready, or is refused.
@@ -86,7 +119,7 @@ pub fn file_ready(
     nof: Nof,
     lof: Lof,
     frq: Frq,
-) -> AsduResult
+) -> Result<Asdu, FtError>
     ensures { result ≡ made common_address originator (F.FileReady ioa nof lof frq) }
 {
     alone(
@@ -105,7 +138,7 @@ pub fn section_ready(
     nos: Nos,
     lof: Lof,
     srq: Srq,
-) -> AsduResult
+) -> Result<Asdu, FtError>
     ensures { result ≡ made common_address originator (F.SectionReady ioa nof nos lof srq) }
 {
     alone(
@@ -122,6 +155,7 @@ pub fn section_ready(
 }
 
 // A segment with the caller's octets beside it: 5 for none, 6 for more than 236.
+#[tactic(auto, using(laws::proofs::Decide::decide), unfolding(crate::specs::Makers::segment_made))]
 pub fn segment(
     common_address: u16,
     originator: u8,
@@ -129,15 +163,15 @@ pub fn segment(
     nof: Nof,
     nos: Nos,
     payload: &[u8],
-) -> AsduResult
+) -> Result<Asdu, FtError>
     ensures { result ≡ segment_made common_address originator ioa nof nos payload.now }
 {
     let length = payload.len();
     if length < 1 {
-        return AsduResult::Err(FtError::EmptySegment);
+        return Err(FtError::EmptySegment);
     }
     if sizes::MAX_SEGMENT < length {
-        return AsduResult::Err(FtError::SegmentTooLong);
+        return Err(FtError::SegmentTooLong);
     }
     let los = Los {
         value: length as u8,
@@ -161,7 +195,7 @@ pub fn last_segment(
     nos: Nos,
     lsq: Lsq,
     chs: Chs,
-) -> AsduResult
+) -> Result<Asdu, FtError>
     ensures { result ≡ made common_address originator (F.LastSection ioa nof nos lsq chs) }
 {
     alone(
@@ -185,7 +219,7 @@ pub fn ack(
     nof: Nof,
     nos: Nos,
     afq: Afq,
-) -> AsduResult
+) -> Result<Asdu, FtError>
     ensures { result ≡ made common_address originator (F.Ack ioa nof nos afq) }
 {
     alone(
@@ -202,7 +236,7 @@ pub fn directory(
     ioa: u32,
     cause: Cause,
     entries: &[u8],
-) -> AsduResult
+) -> Result<Asdu, FtError>
     ensures { result ≡ framed conventional common_address originator (F.Directory ioa cause) entries.now }
 {
     let frame = Frame::Directory { ioa, cause };
@@ -223,7 +257,7 @@ pub fn query_log(
     nof: Nof,
     range_start: Cp56Time2a,
     range_stop: Cp56Time2a,
-) -> AsduResult
+) -> Result<Asdu, FtError>
     ensures { result ≡ made common_address originator (F.QueryLog ioa nof range_start range_stop) }
 {
     let frame = Frame::QueryLog {

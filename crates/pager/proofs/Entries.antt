@@ -2,18 +2,25 @@
 use Prim.Native.Nat.{ℕ, zero, suc, ◌+◌, ◌-◌, ◌*◌, ◌/◌, ◌%◌, ◌≤◌, ◌<◌}
 use mathlib.Core.Path.{◌≡◌, refl}
 use mathlib.Core.Bool.{Bool, true, false}
-use mathlib.Core.List.{List}
+use mathlib.Core.List.{List, ◌∷◌, ◌++◌}
 use native.Mathlib.Omega.{arith}
 use lib.Dec.{eqb}
-use lib.ListN.{length, take, drop, length-take, length-drop}
-use lib.Seq.{drop-drop, take_all}
+use lib.ListN.{length, take, drop, length-take, length-drop, length-append}
+use lib.Seq.{drop-drop, take_all, take_at, drop_at}
 use borrow.Author.Tests.{eqb-true}
+use Rattle.std.specs.Prelude.{Ok}
+use Rattle.std.specs.Prelude.{◌&&◌, false}
+use Rattle.std.specs.declared.slice.ChunksExact.{ChunksExact}
+use Rattle.std.specs.List.{list_all}
+use Rattle.std.specs.Slice.Iter.{chunks_exact_rest, chunks_exact_size, chunks_exact_steps}
+use Rattle.std.proofs.lemmas.Iterator.{YieldsList}
+use Rattle.std.proofs.lemmas.Iterator.Splits.{YieldsList-from_shown_while}
+use Rattle.lists.specs.Parts.{parts}
 use Rattle.laws.specs.When.{when, ◌and◌}
 use Rattle.laws.proofs.Decide.{whens}
 use Rattle.lists.proofs.Parts.{ceil_enough, ceil_least}
 use Rattle.asdu.specs.Sizes.{within}
 use Rattle.asdu.specs.Entry.{entry_of, reserved_clear, unpacked, all_clear, page_right}
-use Rattle.asdu.specs.declared.EntryResult.TheVariants.{Ok}
 use Rattle.asdu.proofs.Range.{both}
 use Rattle.pager.specs.Pages.{entries_of, entries_right, packed_entry, page_count, entry_count}
 
@@ -87,3 +94,37 @@ module _ (o : List ℕ) (right : entries_right o ≡ true) where
     pub packed_unpacks : unpacked (packed_entry o k) ≡ Ok (entry_of (packed_entry o k))
     unfolding unpacked
     packed_unpacks = simp (packed_long, packed_clear, whens)
+
+-- ---- all entries, one after the other
+
+-- the whole entries that lie in these octets
+abbrev pub cut : List ℕ → List (List ℕ)
+cut o = parts (length o / 13) 13 o
+
+-- each is a page by itself
+pub each_right : (n : ℕ) (o : List ℕ) → 13 * n ≤ length o → list_all page_right (parts n 13 o) ≡ all_clear n o
+unfolding when
+each_right zero o h = refl
+each_right (suc n) o h =
+    let whole : length (take 13 o) ≡ 13 = simp length-take (omega arith) in
+    rw (page_of_one (take 13 o) whole, each_right n (drop 13 o) (simp length-drop (omega arith))) (same (reserved_clear (take 13 o)) (all_clear n (drop 13 o)))
+  where
+    same : (a b : Bool) → (a && b) ≡ when a b false
+    same true b = refl
+    same false b = refl
+
+-- the library's iterator over them gives them
+pub entries_yielded : (s : ChunksExact ℕ) → chunks_exact_size s ≡ 13 → YieldsList chunks_exact_steps (λ x. x.now) s (cut (chunks_exact_rest s))
+entries_yielded s h =
+    YieldsList-from_shown_while chunks_exact_steps (λ x. x.now) (λ t. cut (chunks_exact_rest t)) (λ t. chunks_exact_size t ≡ 13)
+    (λ t u p k. none (chunks_exact_rest t) (omega arith))
+    (λ t x u p k. (omega arith, rw k.1.0 (more x.now (chunks_exact_rest u) (omega arith))))
+    s h
+  where
+    none : (o : List ℕ) → length o < 13 → length (cut o) ≡ 0
+    none o q = let z : length o / 13 ≡ 0 = omega arith in rw z
+
+    more : (x o : List ℕ) → length x ≡ 13 → cut (x ++ o) ≡ x ∷ cut o
+    more x o q =
+        let z : length (x ++ o) / 13 ≡ suc (length o / 13) = rw length-append (omega arith) in
+        rw (z, take_at x o 13 q, drop_at x o 13 q)

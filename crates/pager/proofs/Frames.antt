@@ -6,6 +6,7 @@ use mathlib.Core.List.{List}
 use native.Mathlib.Omega.{arith}
 use lib.ListN.{get_or}
 use borrow.Author.Tests.{le-leb}
+use Rattle.std.specs.Prelude.{Ok}
 use Rattle.laws.specs.When.{when, ◌or◌}
 use Rattle.laws.proofs.Decide.{whens}
 use Rattle.asdu.specs.Sizes.{sizes_right, max_ioa}
@@ -22,7 +23,6 @@ use Rattle.ft.specs.declared.Role.{Role}
 use Rattle.ft.specs.declared.Role.TheVariants.{Controlling, Controlled}
 use Rattle.ft.specs.declared.Selection.{Selection}
 use Rattle.ft.specs.declared.FileTransferProcedure.{FileTransferProcedure}
-use Rattle.ft.specs.declared.AsduResult.TheVariants.{Ok}
 use Rattle.pager.specs.Pages.{entries_right, page_count, entry_count, page_address, page_octets, page_frame}
 use Rattle.pager.proofs.Sent.{sent_long, entries_of_page, page_right_lem}
 

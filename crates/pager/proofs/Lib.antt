@@ -1,3 +1,4 @@
 pub mod Entries
 pub mod Sent
+pub mod Chained
 pub mod Frames

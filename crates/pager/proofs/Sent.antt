@@ -8,13 +8,13 @@ use lib.Dec.{eqb, lit<}
 use lib.ListN.{length, take, drop, get_or, length-append}
 use lib.Seq.{get_or-drop, take_at, drop_at}
 use borrow.Author.Tests.{le-leb}
+use Rattle.std.specs.Prelude.{Err, Ok}
 use Rattle.laws.specs.When.{◌and◌}
 use Rattle.laws.proofs.Decide.{whens}
 use Rattle.asdu.specs.Sizes.{within}
 use Rattle.asdu.specs.Entry.{entry_in_range, entry_octets, entry_of, reserved_clear, unpacked, all_clear, page_right}
 use Rattle.asdu.specs.declared.DirectoryEntry.{DirectoryEntry}
 use Rattle.asdu.specs.declared.FtError.TheVariants.{ValueOutOfRange}
-use Rattle.asdu.specs.declared.EntryResult.TheVariants.{Ok, Err}
 use Rattle.asdu.proofs.Octets.{thirteen}
 use Rattle.asdu.proofs.Range.{both}
 use Rattle.asdu.proofs.EntryLaws.{unpack-pack, pack-unpack}

@@ -1,18 +1,14 @@
 -- The pages of a directory (document 01, The directory): o is the list of packed entries, 13 octets each.
-use Rattle.std.specs.Prelude.{ℕ, zero, suc, ◌+◌, ◌-◌, ◌*◌, ◌/◌, ◌%◌, min, Bool, List, [], ◌++◌, eqb, leb, length, take, drop}
+use Rattle.std.specs.Prelude.{ℕ, zero, suc, ◌+◌, ◌-◌, ◌*◌, ◌/◌, ◌%◌, min, Bool, List, [], ◌++◌, eqb, leb, length, take, drop, Result, Ok, Err}
 use Rattle.laws.specs.When.{unless, when, ◌and◌}
 use Rattle.lists.specs.Parts.{div_ceil}
 use Rattle.asdu.specs.Entry.{entry_of, entry_octets, all_clear, entry_address}
 use Rattle.asdu.specs.declared.DirectoryEntry.{DirectoryEntry}
 use Rattle.asdu.specs.declared.FtError.TheVariants as E
-use Rattle.asdu.specs.declared.EntryResult.{EntryResult}
-use Rattle.asdu.specs.declared.EntryResult.TheVariants as U
 use Rattle.frame.specs.declared.Frame.{Frame}
 use Rattle.frame.specs.declared.Frame.TheVariants.{Directory}
-use Rattle.pager.specs.declared.PagesResult.{PagesResult}
-use Rattle.pager.specs.declared.PagesResult.TheVariants as N
-use Rattle.pager.specs.declared.PageResult.{PageResult}
-use Rattle.pager.specs.declared.PageResult.TheVariants as P
+use Rattle.asdu.specs.declared.FtError.{FtError}
+use Rattle.pager.specs.declared.Page.{Page}
 
 -- ---- entries
 
@@ -42,10 +38,6 @@ flagged last e =
       };
       time = e.time;
     }
-
-abbrev pub flagged_answer : Bool → EntryResult → EntryResult
-flagged_answer last (U.Ok e) = U.Ok (flagged last e)
-flagged_answer last (U.Err e) = U.Err e
 
 -- entry k as its page carries it: only the last entry of all has the flag
 unfoldable pub sent_entry : List ℕ → ℕ → DirectoryEntry
@@ -77,20 +69,41 @@ page_octets o i = sent_octets o (entry_count o i) (i * 18)
 abbrev pub page_frame : ℕ → ℕ → Frame
 page_frame ioa i = Directory (page_address ioa i) (record { value = 5 })
 
+-- ---- of so many entries, wherever they lie: 9 for what is not there
+
+-- how many entries are on page i
+unfoldable pub entries_on : ℕ → ℕ → Result ℕ FtError
+entries_on n i = when (leb (div_ceil n 18) i) (Err E.IndexOutOfRange) (Ok (min 18 (n - i * 18)))
+
+-- page i, where the first entry of all is at the address ioa
+unfoldable pub page_among : ℕ → ℕ → ℕ → Result Page FtError
+page_among ioa n i =
+    when (leb (div_ceil n 18) i) (Err E.IndexOutOfRange) (Ok (record { ioa = entry_address ioa (i * 18); count = min 18 (n - i * 18) }))
+
+-- the number of entry j of page i, counted over all pages
+unfoldable pub number_among : ℕ → ℕ → ℕ → Result ℕ FtError
+number_among n i j =
+    when (leb (div_ceil n 18) i) (Err E.IndexOutOfRange)
+    (when (leb (min 18 (n - i * 18)) j) (Err E.IndexOutOfRange)
+    (Ok (i * 18 + j)))
+
 -- ---- what the pager answers: 4, then 9
 
-unfoldable pub pages_answer : List ℕ → PagesResult
-pages_answer o = unless (entries_right o) (N.Err E.ValueOutOfRange) (N.Ok (page_count o))
+unfoldable pub counted : List ℕ → Result ℕ FtError
+counted o = unless (entries_right o) (Err E.ValueOutOfRange) (Ok (entries_of o))
 
-unfoldable pub page_answer : ℕ → List ℕ → ℕ → PageResult
+unfoldable pub pages_answer : List ℕ → Result ℕ FtError
+pages_answer o = unless (entries_right o) (Err E.ValueOutOfRange) (Ok (page_count o))
+
+unfoldable pub page_answer : ℕ → List ℕ → ℕ → Result Page FtError
 page_answer ioa o i =
-    unless (entries_right o) (P.Err E.ValueOutOfRange)
-    (when (leb (page_count o) i) (P.Err E.IndexOutOfRange)
-    (P.Ok (record { ioa = page_address ioa i; count = entry_count o i })))
+    unless (entries_right o) (Err E.ValueOutOfRange)
+    (when (leb (page_count o) i) (Err E.IndexOutOfRange)
+    (Ok (record { ioa = page_address ioa i; count = entry_count o i })))
 
-unfoldable pub entry_answer : List ℕ → ℕ → ℕ → EntryResult
+unfoldable pub entry_answer : List ℕ → ℕ → ℕ → Result DirectoryEntry FtError
 entry_answer o i j =
-    unless (entries_right o) (U.Err E.ValueOutOfRange)
-    (when (leb (page_count o) i) (U.Err E.IndexOutOfRange)
-    (when (leb (entry_count o i) j) (U.Err E.IndexOutOfRange)
-    (U.Ok (sent_entry o (i * 18 + j)))))
+    unless (entries_right o) (Err E.ValueOutOfRange)
+    (when (leb (page_count o) i) (Err E.IndexOutOfRange)
+    (when (leb (entry_count o i) j) (Err E.IndexOutOfRange)
+    (Ok (sent_entry o (i * 18 + j)))))

@@ -1,5 +1,2 @@
-pub mod Answers
-pub mod Found
 pub mod Packed
-pub mod Packing
-pub mod Values
+pub mod Chained

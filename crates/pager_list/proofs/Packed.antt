@@ -7,16 +7,17 @@ use native.Mathlib.Omega.{arith}
 use lib.Dec.{eqb}
 use lib.ListN.{length, take, drop, get_or, length-append}
 use lib.Seq.{drop-drop, take_at, drop_at}
-use Rattle.laws.specs.When.{◌and◌}
+use Rattle.std.specs.Prelude.{Err, Ok, ◌&&◌}
+use Rattle.std.specs.List.{list_all}
+use Rattle.laws.specs.When.{when, ◌and◌}
 use Rattle.laws.proofs.Decide.{whens}
 use Rattle.asdu.specs.Entry.{entry_in_range, entry_octets, entry_of, reserved_clear, unpacked, all_clear}
 use Rattle.asdu.specs.declared.DirectoryEntry.{DirectoryEntry}
 use Rattle.asdu.specs.declared.FtError.TheVariants.{ValueOutOfRange}
-use Rattle.asdu.specs.declared.EntryResult.TheVariants.{Ok, Err}
 use Rattle.asdu.proofs.Octets.{thirteen}
 use Rattle.asdu.proofs.Range.{both}
 use Rattle.asdu.proofs.EntryLaws.{unpack-pack}
-use Rattle.pager.specs.Pages.{entries_of, entries_right, packed_entry}
+use Rattle.pager.specs.Pages.{entries_of, entries_right, packed_entry, flagged, sent_entry}
 use Rattle.pager_list.specs.Listed.{all_in_range, packed_list}
 
 -- ---- one entry
@@ -38,6 +39,15 @@ back e h =
     cc
 
 -- ---- all of them
+
+pub all_of_list : (es : List DirectoryEntry) → list_all entry_in_range es ≡ all_in_range es
+unfolding when
+all_of_list [] = refl
+all_of_list (e ∷ es) = rw (all_of_list es) (same (entry_in_range e) (all_in_range es))
+  where
+    same : (a b : Bool) → (a && b) ≡ when a b false
+    same true b = refl
+    same false b = refl
 
 list_long : (es : List DirectoryEntry) → length (packed_list es) ≡ 13 * length es
 list_long [] = refl
@@ -79,3 +89,9 @@ pub at_in_range : (es : List DirectoryEntry) (k : ℕ) (d : DirectoryEntry) → 
 at_in_range [] k d all h = absurd (omega arith)
 at_in_range (e ∷ es) zero d all h = (both (entry_in_range e) (all_in_range es) all).0
 at_in_range (e ∷ es) (suc k) d all h = at_in_range es k d (both (entry_in_range e) (all_in_range es) all).1 (omega arith)
+
+-- as its page carries it
+pub sent_of_list : (es : List DirectoryEntry) (k : ℕ) (d : DirectoryEntry) → all_in_range es ≡ true → k < length es
+    → sent_entry (packed_list es) k ≡ flagged (eqb (k + 1) (length es)) (get_or es k d)
+unfolding sent_entry
+sent_of_list es k d all h = simp (list_count es, list_at es k d h, back (get_or es k d) (at_in_range es k d all h))

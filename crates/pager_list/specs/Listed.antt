@@ -1,16 +1,12 @@
 -- What the pager answers over the station's entries themselves (document 01, The directory and Form by location): 4 where an entry is out of range, which has no octets of its own, else what the packed pager answers on the entries' octets.
-use Rattle.std.specs.Prelude.{ℕ, Bool, true, List, [], ◌∷◌, ◌++◌}
+use Rattle.std.specs.Prelude.{ℕ, Bool, true, List, [], ◌∷◌, ◌++◌, length, Result, Ok, Err}
 use Rattle.laws.specs.When.{unless, ◌and◌}
 use Rattle.asdu.specs.Entry.{entry_in_range, entry_octets}
 use Rattle.asdu.specs.declared.DirectoryEntry.{DirectoryEntry}
 use Rattle.asdu.specs.declared.FtError.TheVariants as E
-use Rattle.asdu.specs.declared.EntryResult.{EntryResult}
-use Rattle.asdu.specs.declared.EntryResult.TheVariants as U
 use Rattle.pager.specs.Pages.{pages_answer, page_answer, entry_answer}
-use Rattle.pager.specs.declared.PagesResult.{PagesResult}
-use Rattle.pager.specs.declared.PagesResult.TheVariants as N
-use Rattle.pager.specs.declared.PageResult.{PageResult}
-use Rattle.pager.specs.declared.PageResult.TheVariants as P
+use Rattle.asdu.specs.declared.FtError.{FtError}
+use Rattle.pager.specs.declared.Page.{Page}
 
 -- each entry is in range
 abbrev pub all_in_range : List DirectoryEntry → Bool
@@ -22,13 +18,17 @@ abbrev pub packed_list : List DirectoryEntry → List ℕ
 packed_list [] = []
 packed_list (e ∷ es) = entry_octets e ++ packed_list es
 
+-- how many there are, where each is in range: else 4
+unfoldable pub listed_count : List DirectoryEntry → Result ℕ FtError
+listed_count es = unless (all_in_range es) (Err E.ValueOutOfRange) (Ok (length es))
+
 -- ---- what the pager answers
 
-unfoldable pub listed_pages : List DirectoryEntry → PagesResult
-listed_pages es = unless (all_in_range es) (N.Err E.ValueOutOfRange) (pages_answer (packed_list es))
+unfoldable pub listed_pages : List DirectoryEntry → Result ℕ FtError
+listed_pages es = unless (all_in_range es) (Err E.ValueOutOfRange) (pages_answer (packed_list es))
 
-unfoldable pub listed_page : ℕ → List DirectoryEntry → ℕ → PageResult
-listed_page ioa es i = unless (all_in_range es) (P.Err E.ValueOutOfRange) (page_answer ioa (packed_list es) i)
+unfoldable pub listed_page : ℕ → List DirectoryEntry → ℕ → Result Page FtError
+listed_page ioa es i = unless (all_in_range es) (Err E.ValueOutOfRange) (page_answer ioa (packed_list es) i)
 
-unfoldable pub listed_entry : List DirectoryEntry → ℕ → ℕ → EntryResult
-listed_entry es i j = unless (all_in_range es) (U.Err E.ValueOutOfRange) (entry_answer (packed_list es) i j)
+unfoldable pub listed_entry : List DirectoryEntry → ℕ → ℕ → Result DirectoryEntry FtError
+listed_entry es i j = unless (all_in_range es) (Err E.ValueOutOfRange) (entry_answer (packed_list es) i j)

@@ -3,6 +3,7 @@ use Prim.Native.Nat.{ℕ}
 use mathlib.Core.Path.{◌≡◌, refl}
 use mathlib.Core.Bool.{Bool, true, false}
 use mathlib.Core.List.{List}
+use Rattle.std.specs.Prelude.{Err, Ok}
 use Rattle.laws.specs.When.{when, unless}
 use Rattle.asdu.specs.Sizes.{sizes_right}
 use Rattle.asdu.proofs.Range.{both}
@@ -12,15 +13,13 @@ use Rattle.ft.specs.Procedure.{settled, address_right, addressed}
 use Rattle.ft.specs.Admission.{serves}
 use Rattle.ft.specs.Building.{header_of, framed, built}
 use Rattle.ft.specs.declared.Asdu.{Asdu}
-use Rattle.ft.specs.declared.AsduResult.TheVariants as A
 use Rattle.provide.specs.Record.{file_agrees}
 use Rattle.provide.specs.Replies.{file_ready, frame_of, announced}
 use Rattle.provide.specs.declared.Provider.{Provider}
-use Rattle.provide.specs.declared.FrameResult.TheVariants.{Ok, Err}
 use Rattle.provide.proofs.Making.{agrees}
 
 framed_when : (u s : Bool) (a : Asdu)
-    → frame_of (unless u (A.Err E.FunctionNotUsed) (unless s (A.Err E.NotSelectedDirection) (A.Ok a)))
+    → frame_of (unless u (Err E.FunctionNotUsed) (unless s (Err E.NotSelectedDirection) (Ok a)))
     ≡ unless u (Err E.FunctionNotUsed) (unless s (Err E.NotSelectedDirection) (Ok a.frame))
 unfolding when
 framed_when true true a = refl

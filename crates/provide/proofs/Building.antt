@@ -8,6 +8,7 @@ use native.Mathlib.Omega.{arith}
 use lib.Dec.{leb}
 use lib.ListN.{length}
 use borrow.Author.Tests.{leb-true, le-leb, eq-eqb}
+use Rattle.std.specs.Prelude.{Ok}
 use Rattle.laws.specs.When.{when, ◌and◌}
 use Rattle.lists.proofs.Parts.{Fit, fit_all}
 use Rattle.asdu.specs.Sizes.{within, sizes_right, header_len, element_room, segment_limit}
@@ -24,7 +25,6 @@ use Rattle.ft.specs.Building.{header_of, framed, built}
 use Rattle.ft.specs.declared.Role.{Role}
 use Rattle.ft.specs.declared.Role.TheVariants.{Controlling, Controlled}
 use Rattle.ft.specs.declared.FileTransferProcedure.{FileTransferProcedure}
-use Rattle.ft.specs.declared.AsduResult.TheVariants as A
 use Rattle.sections.specs.Sections.{segments}
 use Rattle.provide.specs.Record.{file_agrees}
 use Rattle.provide.specs.Replies.{Packet, bare, octets_of, limit_of, segment_packet, close_frame, replies}
@@ -79,7 +79,7 @@ wide p e = limit_wide p.sizes (split p e).0
 -- ---- frames
 
 abbrev pub Built : FileTransferProcedure → Packet → Type 0
-Built p x = built p x.frame x.payload ≡ A.Ok (record { header = header_of p.ca p.org x.frame; frame = x.frame })
+Built p x = built p x.frame x.payload ≡ Ok (record { header = header_of p.ca p.org x.frame; frame = x.frame })
 
 abbrev pub AllBuilt : FileTransferProcedure → List Packet → Type 0
 AllBuilt p [] = Unit {0}

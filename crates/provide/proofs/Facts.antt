@@ -4,10 +4,10 @@ use mathlib.Core.Path.{◌≡◌, refl}
 use mathlib.Core.Bool.{true, false}
 use mathlib.Core.List.{List}
 use borrow.Author.Tests.{lt-ltb, le-ltb}
+use Rattle.std.specs.Prelude.{Option, Ok}
 use Rattle.laws.specs.When.{when}
 use Rattle.asdu.specs.declared.Nos.{Nos}
 use Rattle.asdu.specs.declared.Header.{Header}
-use Rattle.asdu.specs.declared.UnknownField.{UnknownField}
 use Rattle.frame.specs.declared.Frame.{Frame}
 use Rattle.ft.specs.Admission.{on_asdu}
 use Rattle.ft.specs.declared.Received.TheVariants as D
@@ -19,11 +19,12 @@ use Rattle.provide.specs.declared.Provider.{Provider}
 use Rattle.requests.specs.Answers.{sc_answer, after_section, ack_answer}
 use Rattle.requests.specs.declared.Reply.TheVariants.{Nothing, FileReady, SectionReady, Section, FileClose}
 use Rattle.requests.specs.declared.ProviderAnswer.TheVariants.{Complete}
+use Rattle.asdu.specs.declared.Unspecified.{Unspecified}
 
 module _ (p : Provider) where
   -- a request that is admitted is heard
-  pub request_heard : (file : List ℕ) (h : Header) (unknown : UnknownField) (f : Frame) (beside : List ℕ)
-      → file_agrees p file ≡ true → p.done ≡ false → on_asdu p.procedure h unknown (D.Frame f) beside ≡ A.Requested
+  pub request_heard : (file : List ℕ) (h : Header) (unknown : Option Unspecified) (f : Frame) (beside : List ℕ)
+      → file_agrees p file ≡ true → p.done ≡ false → on_asdu p.procedure h unknown (D.Frame f) beside ≡ Ok A.Requested
       → provide p file h unknown (D.Frame f) beside ≡ on_request p f
   unfolding provide when
   request_heard file h unknown f beside agrees goes admitted = simp (agrees, goes, admitted)

@@ -8,6 +8,7 @@ use native.Mathlib.Decide.{dec_lt}
 use lib.ListN.{length, get_or, length-append, length-map, get_or-append, get_or-map}
 use lib.Seq.{get_or_at}
 use borrow.Author.Tests.{lt-ltb, le-ltb, eq-eqb, ne_eqb}
+use Rattle.std.specs.Prelude.{Err, Ok}
 use Rattle.laws.specs.When.{when}
 use Rattle.lists.proofs.Parts.{length-parts, part_at_lem}
 use Rattle.asdu.specs.declared.Nos.{Nos}
@@ -19,9 +20,6 @@ use Rattle.provide.specs.Replies.{Packet, bare, octets_of, limit_of, segment_pac
 use Rattle.provide.specs.declared.Provider.{Provider}
 use Rattle.requests.specs.declared.Reply.{Reply}
 use Rattle.requests.specs.declared.Reply.TheVariants.{Nothing, FileReady, SectionReady, Section, FileClose}
-use Rattle.provide.specs.declared.CountResult.TheVariants as C
-use Rattle.provide.specs.declared.FrameResult.TheVariants.{Ok, Err}
-use Rattle.provide.specs.declared.PartResult.TheVariants as Q
 use Rattle.sections.proofs.SectionLaws.{segment_part}
 
 -- frame and payload of an index are those of a packet
@@ -54,7 +52,7 @@ only_bare : (file : List ℕ) → payload_of file (only_part 0) ≡ []
 unfolding only_part part_octets when
 only_bare file = refl
 
-only_none : (i : ℕ) → 1 ≤ i → only_part i ≡ Q.Err E.IndexOutOfRange
+only_none : (i : ℕ) → 1 ≤ i → only_part i ≡ Err E.IndexOutOfRange
 unfolding only_part when
 only_none i h = simp (ne_eqb i 0 (λ e. omega arith))
 
@@ -98,7 +96,7 @@ module _ (p : Provider) (file : List ℕ) (nos : Nos) where
   unfolding section_frame when
   section_past i h = simp (le-ltb i many (omega arith), ne_eqb i many (λ e. omega arith))
 
-  none_past : (i : ℕ) → many + 1 ≤ i → section_part p file nos i ≡ Q.Err E.IndexOutOfRange
+  none_past : (i : ℕ) → many + 1 ≤ i → section_part p file nos i ≡ Err E.IndexOutOfRange
   unfolding section_part when
   none_past i h = simp (le-ltb i many (omega arith)) (only_none (i - many) (omega arith))
 
@@ -119,7 +117,7 @@ frame_past p file (SectionReady nos) i h = only_one _ i h
 frame_past p file (Section nos) i h = section_past p file nos i h
 frame_past p file (FileClose nos) i h = only_one _ i h
 
-part_past : (p : Provider) (file : List ℕ) (r : Reply) (i : ℕ) → count_of p file r ≤ i → part_at p file r i ≡ Q.Err E.IndexOutOfRange
+part_past : (p : Provider) (file : List ℕ) (r : Reply) (i : ℕ) → count_of p file r ≤ i → part_at p file r i ≡ Err E.IndexOutOfRange
 part_past p file Nothing i h = refl
 part_past p file FileReady i h = only_none i h
 part_past p file (SectionReady nos) i h = only_none i h
@@ -128,11 +126,11 @@ part_past p file (FileClose nos) i h = only_none i h
 
 -- of a record and file that agree: the count is the list's length; the frame and payload of an index below it are those of the list; any other index is 9
 pub record Agree (p : Provider) (file : List ℕ) (r : Reply) : Type 0 where
-  pub count : reply_count p file r ≡ C.Ok (length (replies p file r))
+  pub count : reply_count p file r ≡ Ok (length (replies p file r))
   pub frame : (i : ℕ) (d : Packet) → i < length (replies p file r) → reply_frame p file r i ≡ Ok (get_or (replies p file r) i d).frame
   pub payload : (i : ℕ) (d : Packet) → i < length (replies p file r) → payload_of file (reply_payload p file r i) ≡ (get_or (replies p file r) i d).payload
   pub past : (i : ℕ) → length (replies p file r) ≤ i → reply_frame p file r i ≡ Err E.IndexOutOfRange
-  pub payload_past : (i : ℕ) → length (replies p file r) ≤ i → reply_payload p file r i ≡ Q.Err E.IndexOutOfRange
+  pub payload_past : (i : ℕ) → length (replies p file r) ≤ i → reply_payload p file r i ≡ Err E.IndexOutOfRange
 
 pub replies_agree : (p : Provider) (file : List ℕ) (r : Reply) → file_agrees p file ≡ true → Agree p file r
 unfolding reply_count reply_frame reply_payload when

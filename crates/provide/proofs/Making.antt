@@ -6,6 +6,7 @@ use mathlib.Core.List.{List}
 use lib.Dec.{leb}
 use lib.ListN.{length}
 use borrow.Author.Tests.{leb-true, le-leb, eq-eqb, eqb-true}
+use Rattle.std.specs.Prelude.{Err, Ok, Result}
 use Rattle.laws.specs.When.{when, unless}
 use Rattle.asdu.specs.Sizes.{sizes_right, max_ioa}
 use Rattle.asdu.proofs.Range.{both}
@@ -16,8 +17,6 @@ use Rattle.ft.specs.declared.FileTransferProcedure.{FileTransferProcedure}
 use Rattle.sections.specs.Sections.{section_length}
 use Rattle.provide.specs.Record.{fresh_provider, provider_made, file_agrees}
 use Rattle.provide.specs.declared.Provider.{Provider}
-use Rattle.provide.specs.declared.ProviderResult.{ProviderResult}
-use Rattle.provide.specs.declared.ProviderResult.TheVariants.{Ok, Err}
 
 -- settings whose widths and own addresses are right
 pub settled_by : (p : FileTransferProcedure) → sizes_right p.sizes ≡ true → address_right p.sizes p.ca p.org ≡ true → settled p ≡ true
@@ -25,7 +24,7 @@ unfolding settled when
 settled_by p z a = simp (z, a)
 
 -- a test that is passed before an answer
-test_held : (b : Bool) (e : FtError) (y : ProviderResult) (x : Provider) → unless b (Err e) y ≡ Ok x → (b ≡ true) × (y ≡ Ok x)
+test_held : (b : Bool) (e : FtError) (y : Result Provider FtError) (x : Provider) → unless b (Err e) y ≡ Ok x → (b ≡ true) × (y ≡ Ok x)
 unfolding when
 test_held true e y x h = (refl, h)
 test_held false e y x h = (cc, cc)

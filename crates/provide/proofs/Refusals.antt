@@ -3,13 +3,13 @@ use Prim.Native.Nat.{ℕ}
 use mathlib.Core.Path.{◌≡◌, refl}
 use mathlib.Core.Bool.{Bool, true, false}
 use mathlib.Core.List.{List}
+use Rattle.std.specs.Prelude.{Option, Result, Ok, Err}
 use Rattle.laws.specs.When.{when}
 use Rattle.laws.proofs.Choices as C
 use Rattle.asdu.specs.declared.Nos.{Nos}
 use Rattle.asdu.specs.declared.Scq.{Scq}
 use Rattle.asdu.specs.declared.Afq.{Afq}
 use Rattle.asdu.specs.declared.Header.{Header}
-use Rattle.asdu.specs.declared.UnknownField.{UnknownField}
 use Rattle.frame.specs.declared.Frame.{Frame}
 use Rattle.frame.specs.declared.Frame.TheVariants as F
 use Rattle.ft.specs.Admission.{on_asdu}
@@ -22,6 +22,8 @@ use Rattle.requests.specs.declared.ProviderAnswer.TheVariants.{Running, Complete
 use Rattle.provide.specs.Requests.{stepped, answered_with, on_sc, on_ack, on_ours, on_request, on_requested, provide_admitted, provide, is_refusal}
 use Rattle.provide.specs.declared.Provider.{Provider}
 use Rattle.provide.specs.declared.ProviderStep.{ProviderStep}
+use Rattle.asdu.specs.declared.Unspecified.{Unspecified}
+use Rattle.asdu.specs.declared.FtError.{FtError}
 
 module _ (p : Provider) where
   -- a step that keeps the record, if its answer is a refusal
@@ -73,19 +75,19 @@ module _ (p : Provider) where
   requested_keeps (D.Frame f) = request_keeps f
   requested_keeps D.Undecodable = same _
 
-  admitted_keeps : (received : Received) (a : Reaction) → Keeps (provide_admitted p received a)
-  admitted_keeps received A.Requested = requested_keeps received
-  admitted_keeps received A.Answered = same _
-  admitted_keeps received (A.Refused cause mirror) = other _ refl
-  admitted_keeps received (A.Discard why) = same _
-  admitted_keeps received A.Other = same _
-  admitted_keeps received (A.Err x) = same _
+  admitted_keeps : (received : Received) (a : Result Reaction FtError) → Keeps (provide_admitted p received a)
+  admitted_keeps received (Ok A.Requested) = requested_keeps received
+  admitted_keeps received (Ok A.Answered) = same _
+  admitted_keeps received (Ok (A.Refused cause mirror)) = other _ refl
+  admitted_keeps received (Ok (A.Discard why)) = same _
+  admitted_keeps received (Ok A.Other) = same _
+  admitted_keeps received (Err x) = same _
 
-  provide_keeps : (file : List ℕ) (h : Header) (unknown : UnknownField) (received : Received) (beside : List ℕ)
+  provide_keeps : (file : List ℕ) (h : Header) (unknown : Option Unspecified) (received : Received) (beside : List ℕ)
       → Keeps (provide p file h unknown received beside)
   unfolding provide
   provide_keeps file h unknown received beside = either _ _ _ (either _ _ _ (same _) (admitted_keeps received (on_asdu p.procedure h unknown received beside))) (same _)
 
-  pub refusal_keeps : (file : List ℕ) (h : Header) (unknown : UnknownField) (received : Received) (beside : List ℕ)
+  pub refusal_keeps : (file : List ℕ) (h : Header) (unknown : Option Unspecified) (received : Received) (beside : List ℕ)
       → is_refusal (provide p file h unknown received beside).answer ≡ true → (provide p file h unknown received beside).provider ≡ p
   refusal_keeps file h unknown received beside = (provide_keeps file h unknown received beside).keeps

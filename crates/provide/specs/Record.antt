@@ -1,5 +1,5 @@
 -- The Provider's record: its making, and when it and a lent file agree (document 01, refusals 1 to 3 and 26).
-use Rattle.std.specs.Prelude.{ℕ, ◌+◌, min, Bool, true, false, List, eqb, leb, length}
+use Rattle.std.specs.Prelude.{ℕ, ◌+◌, min, Bool, true, false, List, eqb, leb, length, Result, Ok, Err}
 use Rattle.laws.specs.When.{unless, ◌and◌}
 use Rattle.asdu.specs.Sizes.{sizes_right, max_ioa}
 use Rattle.asdu.specs.declared.Nof.{Nof}
@@ -8,8 +8,7 @@ use Rattle.ft.specs.Procedure.{settled, addressed}
 use Rattle.ft.specs.declared.FileTransferProcedure.{FileTransferProcedure}
 use Rattle.sections.specs.Sections.{section_length}
 use Rattle.provide.specs.declared.Provider.{Provider}
-use Rattle.provide.specs.declared.ProviderResult.{ProviderResult}
-use Rattle.provide.specs.declared.ProviderResult.TheVariants.{Ok, Err}
+use Rattle.asdu.specs.declared.FtError.{FtError}
 
 -- of a file of n octets
 abbrev pub fresh_provider : FileTransferProcedure → ℕ → Nof → ℕ → Provider
@@ -17,7 +16,7 @@ fresh_provider p ioa nof n =
     record { procedure = p; ioa = ioa; nof = nof; length = n; section_len = section_length n; unmatched = 0; done = false }
 
 -- 2, then 3 for the own addresses and the object address, then 1
-unfoldable pub provider_made : FileTransferProcedure → ℕ → Nof → ℕ → ProviderResult
+unfoldable pub provider_made : FileTransferProcedure → ℕ → Nof → ℕ → Result Provider FtError
 provider_made p ioa nof n =
     unless (sizes_right p.sizes) (Err E.InvalidAddressSizes)
     (unless (addressed p.sizes p.ca p.org ioa) (Err E.AddressOutOfRange)

@@ -1,15 +1,13 @@
 -- What a Provider makes of a received frame (document 01, The Provider's record; IEC 60870-5-101, 7.4.11).
-use Rattle.std.specs.Prelude.{ℕ, Bool, true, false, List, eqb}
+use Rattle.std.specs.Prelude.{ℕ, Bool, true, false, List, eqb, Option, Some, Result, Ok, Err}
 use Rattle.laws.specs.When.{when, unless, ◌and◌}
 use Rattle.asdu.specs.declared.Nos.{Nos}
 use Rattle.asdu.specs.declared.Scq.{Scq}
 use Rattle.asdu.specs.declared.Afq.{Afq}
 use Rattle.asdu.specs.declared.Header.{Header}
-use Rattle.asdu.specs.declared.UnknownField.{UnknownField}
 use Rattle.asdu.specs.declared.FtError.TheVariants as E
 use Rattle.frame.specs.declared.Frame.{Frame}
 use Rattle.frame.specs.declared.Frame.TheVariants as F
-use Rattle.frame.specs.declared.SomeNof.TheVariants as N
 use Rattle.frame.specs.Frames.{ioa_of}
 use Rattle.frame.specs.Answers.{nof_of, nof_agree}
 use Rattle.ft.specs.Admission.{on_asdu}
@@ -26,6 +24,8 @@ use Rattle.requests.specs.declared.Reply.{Reply}
 use Rattle.requests.specs.declared.Reply.TheVariants.{Nothing}
 use Rattle.requests.specs.declared.ProviderAnswer.{ProviderAnswer}
 use Rattle.requests.specs.declared.ProviderAnswer.TheVariants.{Running, Complete, Deactivated, FileRejected, Refused, Err}
+use Rattle.asdu.specs.declared.Unspecified.{Unspecified}
+use Rattle.asdu.specs.declared.FtError.{FtError}
 
 abbrev pub stepped : Provider → ProviderAnswer → ProviderStep
 stepped p a = record { provider = p; answer = a }
@@ -50,7 +50,7 @@ on_ack p nos q = answered_with p (ack_answer (section_count p.length) nos q)
 
 -- whether a request is for this object address and file
 unfoldable pub is_ours : Provider → Frame → Bool
-is_ours p f = eqb (ioa_of f) p.ioa and nof_agree (nof_of f) (N.Some p.nof)
+is_ours p f = eqb (ioa_of f) p.ioa and nof_agree (nof_of f) (Some p.nof)
 
 -- the query of a log sends nothing, and no other frame is a request
 abbrev pub on_ours : Provider → Frame → ProviderStep
@@ -73,16 +73,16 @@ on_requested p (D.Frame f) = on_request p f
 on_requested p D.Undecodable = replying p Nothing
 
 -- by what admission makes of the frame
-abbrev pub provide_admitted : Provider → Received → Reaction → ProviderStep
-provide_admitted p received A.Requested = on_requested p received
-provide_admitted p received A.Answered = replying p Nothing
-provide_admitted p received (A.Refused cause mirror) = stepped (ended p) (Refused cause mirror)
-provide_admitted p received (A.Discard why) = replying p Nothing
-provide_admitted p received A.Other = replying p Nothing
-provide_admitted p received (A.Err e) = stepped p (Err e)
+abbrev pub provide_admitted : Provider → Received → Result Reaction FtError → ProviderStep
+provide_admitted p received (Ok A.Requested) = on_requested p received
+provide_admitted p received (Ok A.Answered) = replying p Nothing
+provide_admitted p received (Ok (A.Refused cause mirror)) = stepped (ended p) (Refused cause mirror)
+provide_admitted p received (Ok (A.Discard why)) = replying p Nothing
+provide_admitted p received (Ok A.Other) = replying p Nothing
+provide_admitted p received (Err e) = stepped p (Err e)
 
 -- one frame handed to the Provider: 26 first, then a done record is answered with nothing
-unfoldable pub provide : Provider → List ℕ → Header → UnknownField → Received → List ℕ → ProviderStep
+unfoldable pub provide : Provider → List ℕ → Header → Option Unspecified → Received → List ℕ → ProviderStep
 provide p file h unknown received beside =
     unless (file_agrees p file) (stepped p (Err E.RecordMismatch))
     (when p.done (replying p Nothing)

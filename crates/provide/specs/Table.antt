@@ -1,5 +1,5 @@
 -- Document 01's written values: the Provider's table, both checksums and both segment limits.
-use Rattle.std.specs.Prelude.{ℕ, ◌≡◌, true, [], ◌∷◌}
+use Rattle.std.specs.Prelude.{ℕ, ◌≡◌, true, [], ◌∷◌, Err}
 use Rattle.asdu.specs.Sizes.{sizes_right, segment_limit, header_len}
 use Rattle.asdu.specs.declared.AddressSizes.{AddressSizes}
 use Rattle.asdu.specs.declared.Nof.{Nof}
@@ -9,7 +9,6 @@ use Rattle.ft.specs.Procedure.{addressed}
 use Rattle.ft.specs.declared.FileTransferProcedure.{FileTransferProcedure}
 use Rattle.sections.specs.Sections.{section_length, section_count, sections}
 use Rattle.provide.specs.Record.{provider_made}
-use Rattle.provide.specs.declared.ProviderResult.TheVariants.{Err}
 
 -- a file of n octets has sections of this length, so many
 abbrev pub Row : ℕ → ℕ → ℕ → Type 0

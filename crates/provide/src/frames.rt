@@ -1,46 +1,45 @@
 // The frames that a Provider sends. A reply has a count, and each frame below it is made when it is
 // asked for by its index; a segment's payload is the part of the lent file that two numbers name. Only
 // the frame that closes a section or the file reads the octets, to sum them.
-ghost use Rattle.std.specs.Prelude.{◌≡◌, ◌+◌, ◌≤◌, length};
-ghost use Rattle.provide.specs.Replies.{file_ready, octets_of, section_ready, segment_frame, close_frame, limit_of, segment_count, count_of, reply_count, only, segment_of, section_frame, frame_at, reply_frame, only_part, section_part, part_at, reply_payload, announced};
+ghost use Rattle.std.specs.Prelude.{◌≡◌, ◌≤◌, eqb, length, Ok, Err};
+ghost use Rattle.laws.specs.When.{when};
+ghost use Rattle.asdu.specs.declared.FtError.TheVariants.{IndexOutOfRange, RecordMismatch};
+ghost use Rattle.provide.specs.Record.{file_agrees};
+ghost use Rattle.provide.specs.Replies.{file_ready, octets_of, section_ready, segment_frame, close_frame, limit_of, segment_count, count_of, reply_count, segment_of, section_frame, frame_at, reply_frame, only_part, section_part, part_at, reply_payload, announced};
 
-use crate::{CountResult, FrameResult, PartResult, Provider};
+use crate::Provider;
 use asdu::{Frq, FtError, Lof, Los, Lsq, Nos, Srq, sizes};
 use frame::Frame;
 use requests::Reply;
 use sections::Part;
 
-// The one frame of a reply, at index 0.
-fn only(frame: Frame, index: usize) -> FrameResult
-    ensures { result ≡ only frame index }
+// The one frame of a reply is at index 0.
+#[tactic(auto, using(laws::proofs::Decide::decide))]
+fn only(index: usize) -> Result<(), FtError>
+    ensures { result ≡ when (eqb index 0) (Ok tt) (Err IndexOutOfRange) }
 {
     if index == 0 {
-        return FrameResult::Ok(frame);
+        return Ok(());
     }
-    FrameResult::Err(FtError::IndexOutOfRange)
+    Err(FtError::IndexOutOfRange)
 }
 
-// No octets beside the one frame of a reply, at index 0.
-fn only_part(index: usize) -> PartResult
+// No octets beside the one frame of a reply.
+#[tactic(auto, using(laws::proofs::Decide::decide), unfolding(crate::specs::Replies::only_part))]
+fn only_part(index: usize) -> Result<Part, FtError>
     ensures { result ≡ only_part index }
 {
-    if index == 0 {
-        return PartResult::Ok(Part {
-            start: 0,
-            length: 0,
-        });
-    }
-    PartResult::Err(FtError::IndexOutOfRange)
+    only(index)?;
+    Ok(Part::NONE)
 }
 
 impl Provider {
     fn file_ready(self) -> Frame
         ensures { result ≡ file_ready self }
     {
-        let nof = self.nof;
         Frame::FileReady {
             ioa: self.ioa,
-            nof,
+            nof: self.nof,
             lof: Lof { value: self.length },
             frq: Frq {
                 value: 0,
@@ -59,11 +58,10 @@ impl Provider {
     fn section_ready(self, file: &[u8], nos: Nos) -> Frame
         ensures { result ≡ section_ready self file.now nos }
     {
-        let nof = self.nof;
         let octets = self.octets(file, nos);
         Frame::SectionReady {
             ioa: self.ioa,
-            nof,
+            nof: self.nof,
             nos,
             lof: Lof {
                 value: octets.len() as u32,
@@ -79,10 +77,9 @@ impl Provider {
         requires { length payload.now ≤ 240 }
         ensures { result ≡ segment_frame self nos payload.now }
     {
-        let nof = self.nof;
         Frame::Segment {
             ioa: self.ioa,
-            nof,
+            nof: self.nof,
             nos,
             los: Los {
                 value: payload.len() as u8,
@@ -94,11 +91,10 @@ impl Provider {
     fn close_frame(self, nos: Nos, lsq: u8, octets: &[u8]) -> Frame
         ensures { result ≡ close_frame self nos lsq octets.now }
     {
-        let nof = self.nof;
         let chs = checksum::checksum(octets, 0);
         Frame::LastSection {
             ioa: self.ioa,
-            nof,
+            nof: self.nof,
             nos,
             lsq: Lsq { value: lsq },
             chs,
@@ -109,9 +105,7 @@ impl Provider {
     fn limit(self) -> u8
         ensures { result ≡ limit_of self }
     {
-        let procedure = self.procedure;
-        let sizes = procedure.sizes;
-        sizes::max_segment(sizes) as u8
+        sizes::max_segment(self.procedure.sizes) as u8
     }
 
     fn segment_count(self, file: &[u8], nos: Nos) -> usize
@@ -125,15 +119,7 @@ impl Provider {
     fn segment(self, file: &[u8], nos: Nos, index: u32) -> &[u8]
         ensures { result.now ≡ segment_of self file.now nos index }
     {
-        let octets = self.octets(file, nos);
-        sections::segment(octets, self.limit(), index)
-    }
-
-    // The frames of section `nos`: its segments and its close.
-    fn section_frames(self, file: &[u8], nos: Nos) -> usize
-        ensures { result ≡ segment_count self file.now nos + 1 }
-    {
-        self.segment_count(file, nos) + 1
+        sections::segment(self.octets(file, nos), self.limit(), index)
     }
 
     fn count_of(self, file: &[u8], reply: Reply) -> usize
@@ -143,81 +129,73 @@ impl Provider {
             Reply::Nothing => 0,
             Reply::FileReady => 1,
             Reply::SectionReady(_) => 1,
-            Reply::Section(nos) => self.section_frames(file, nos),
+            // Its segments and its close.
+            Reply::Section(nos) => self.segment_count(file, nos) + 1,
             Reply::FileClose(_) => 1,
         }
     }
 
     // A section's segments, then its close.
-    fn section_frame(self, file: &[u8], nos: Nos, index: usize) -> FrameResult
+    #[tactic(auto, using(laws::proofs::Decide::decide), unfolding(crate::specs::Replies::section_frame))]
+    fn section_frame(self, file: &[u8], nos: Nos, index: usize) -> Result<Frame, FtError>
         ensures { result ≡ section_frame self file.now nos index }
     {
         let count = self.segment_count(file, nos);
         if index < count {
             let payload = self.segment(file, nos, index as u32);
-            return FrameResult::Ok(self.segment_frame(nos, payload));
+            return Ok(self.segment_frame(nos, payload));
         }
         if index == count {
             let octets = self.octets(file, nos);
-            return FrameResult::Ok(self.close_frame(
-                nos,
-                Lsq::SECTION_WITHOUT_DEACTIVATION,
-                octets,
-            ));
+            return Ok(self.close_frame(nos, Lsq::SECTION_WITHOUT_DEACTIVATION, octets));
         }
-        FrameResult::Err(FtError::IndexOutOfRange)
+        Err(FtError::IndexOutOfRange)
     }
 
-    fn section_ready_at(self, file: &[u8], nos: Nos, index: usize) -> FrameResult
-        ensures { result ≡ only (section_ready self file.now nos) index }
-    {
-        only(self.section_ready(file, nos), index)
-    }
-
-    // The last section of the file, with the sum of all its octets.
-    fn file_close_at(self, file: &[u8], nos: Nos, index: usize) -> FrameResult
-        ensures { result ≡ only (close_frame self nos 1 file.now) index }
-    {
-        if index == 0 {
-            return FrameResult::Ok(self.close_frame(nos, Lsq::FILE_WITHOUT_DEACTIVATION, file));
-        }
-        FrameResult::Err(FtError::IndexOutOfRange)
-    }
-
-    fn frame_at(self, file: &[u8], reply: Reply, index: usize) -> FrameResult
+    // Only a frame that is there is made: a file's close sums all octets.
+    #[tactic(auto, using(laws::proofs::Decide::decide), unfolding(crate::specs::Replies::only))]
+    fn frame_at(self, file: &[u8], reply: Reply, index: usize) -> Result<Frame, FtError>
         ensures { result ≡ frame_at self file.now reply index }
     {
         match reply {
-            Reply::Nothing => FrameResult::Err(FtError::IndexOutOfRange),
-            Reply::FileReady => only(self.file_ready(), index),
-            Reply::SectionReady(nos) => self.section_ready_at(file, nos, index),
+            Reply::Nothing => Err(FtError::IndexOutOfRange),
+            Reply::FileReady => {
+                only(index)?;
+                Ok(self.file_ready())
+            }
+            Reply::SectionReady(nos) => {
+                only(index)?;
+                Ok(self.section_ready(file, nos))
+            }
             Reply::Section(nos) => self.section_frame(file, nos, index),
-            Reply::FileClose(nos) => self.file_close_at(file, nos, index),
+            Reply::FileClose(nos) => {
+                only(index)?;
+                Ok(self.close_frame(nos, Lsq::FILE_WITHOUT_DEACTIVATION, file))
+            }
         }
     }
 
     // A segment's part of the file, then none for the close.
-    fn section_part(self, file: &[u8], nos: Nos, index: usize) -> PartResult
+    #[tactic(auto, using(laws::proofs::Decide::decide), unfolding(crate::specs::Replies::section_part))]
+    fn section_part(self, file: &[u8], nos: Nos, index: usize) -> Result<Part, FtError>
         ensures { result ≡ section_part self file.now nos index }
     {
         let count = self.segment_count(file, nos);
         if index < count {
             let at = index as u32;
-            let payload = self.segment(file, nos, at);
-            let start = sections::segment_start(self.section_len, self.limit(), nos, at);
-            return PartResult::Ok(Part {
-                start,
-                length: payload.len(),
+            return Ok(Part {
+                start: sections::segment_start(self.section_len, self.limit(), nos, at),
+                length: self.segment(file, nos, at).len(),
             });
         }
         only_part(index - count)
     }
 
-    fn part_at(self, file: &[u8], reply: Reply, index: usize) -> PartResult
+    fn part_at(self, file: &[u8], reply: Reply, index: usize) -> Result<Part, FtError>
         ensures { result ≡ part_at self file.now reply index }
     {
         match reply {
-            Reply::Nothing => PartResult::Err(FtError::IndexOutOfRange),
+            Reply::Nothing => Err(FtError::IndexOutOfRange),
             Reply::FileReady => only_part(index),
             Reply::SectionReady(_) => only_part(index),
             Reply::Section(nos) => self.section_part(file, nos, index),
@@ -225,56 +203,61 @@ impl Provider {
         }
     }
 
-    // How many frames a reply has; 26 where record and file disagree.
-    pub fn reply_count(self, file: &[u8], reply: Reply) -> CountResult
-        ensures { result ≡ reply_count self file.now reply }
+    // 26 where record and file disagree.
+    #[tactic(auto, using(laws::proofs::Decide::decide))]
+    fn agreeing(self, file: &[u8]) -> Result<(), FtError>
+        ensures { result ≡ when (file_agrees self file.now) (Ok tt) (Err RecordMismatch) }
     {
         if self.agrees(file) {
-            return CountResult::Ok(self.count_of(file, reply));
+            return Ok(());
         }
-        CountResult::Err(FtError::RecordMismatch)
+        Err(FtError::RecordMismatch)
+    }
+
+    // How many frames a reply has; 26 where record and file disagree.
+    #[tactic(auto, using(laws::proofs::Decide::decide), unfolding(crate::specs::Replies::reply_count))]
+    pub fn reply_count(self, file: &[u8], reply: Reply) -> Result<usize, FtError>
+        ensures { result ≡ reply_count self file.now reply }
+    {
+        self.agreeing(file)?;
+        Ok(self.count_of(file, reply))
     }
 
     // The frame at an index of a reply: 26, then 9 where the index is not below the count.
-    pub fn reply_frame(self, file: &[u8], reply: Reply, index: usize) -> FrameResult
+    #[tactic(auto, using(laws::proofs::Decide::decide), unfolding(crate::specs::Replies::reply_frame))]
+    pub fn reply_frame(self, file: &[u8], reply: Reply, index: usize) -> Result<Frame, FtError>
         ensures { result ≡ reply_frame self file.now reply index }
     {
-        if self.agrees(file) {
-            return self.frame_at(file, reply, index);
-        }
-        FrameResult::Err(FtError::RecordMismatch)
+        self.agreeing(file)?;
+        self.frame_at(file, reply, index)
     }
 
     // What stands beside the frame at an index, by numbers: a segment's part of the lent file, and no
     // octets beside another frame. 26, then 9 where the index is not below the count.
-    pub fn reply_payload(self, file: &[u8], reply: Reply, index: usize) -> PartResult
+    #[tactic(auto, using(laws::proofs::Decide::decide), unfolding(crate::specs::Replies::reply_payload))]
+    pub fn reply_payload(self, file: &[u8], reply: Reply, index: usize) -> Result<Part, FtError>
         ensures { result ≡ reply_payload self file.now reply index }
     {
-        if self.agrees(file) {
-            return self.part_at(file, reply, index);
-        }
-        PartResult::Err(FtError::RecordMismatch)
+        self.agreeing(file)?;
+        self.part_at(file, reply, index)
     }
 
     // The file ready that offers the file without a select: how the control direction's provider opens
     // the transfer. 26, then what `build` refuses: 21 where the station uses neither direction, 22 where
     // not that of its own frames. No more can be refused of a record that agrees with its file. A done
     // record announces too.
-    pub fn announce(self, file: &[u8]) -> FrameResult
+    pub fn announce(self, file: &[u8]) -> Result<Frame, FtError>
         ensures { result ≡ announced self file.now }
     {
-        let procedure = self.procedure;
-        let selection = procedure.selection;
-        let role = procedure.role;
         if !self.agrees(file) {
-            return FrameResult::Err(FtError::RecordMismatch);
+            return Err(FtError::RecordMismatch);
         }
-        if !selection.uses_function() {
-            return FrameResult::Err(FtError::FunctionNotUsed);
+        if !self.procedure.selection.uses_function() {
+            return Err(FtError::FunctionNotUsed);
         }
-        if !procedure.serves(role, false) {
-            return FrameResult::Err(FtError::NotSelectedDirection);
+        if !self.procedure.serves(self.procedure.role, false) {
+            return Err(FtError::NotSelectedDirection);
         }
-        FrameResult::Ok(self.file_ready())
+        Ok(self.file_ready())
     }
 }

@@ -6,14 +6,12 @@ mod frames; // the frames of a reply, by their index
 mod record; // the Provider's record, its making and its agreement with the lent file
 mod request; // what a Provider makes of a received frame
 
-use asdu::{FtError, Nof};
-use frame::Frame;
+use asdu::Nof;
 use ft::FileTransferProcedure;
 use requests::ProviderAnswer;
-use sections::Part;
 
 // The record of one file's transfer.
-#[derive(Clone, Copy)]
+#[derive(Clone, Copy, PartialEq, Eq)]
 pub struct Provider {
     pub procedure: FileTransferProcedure,
     pub ioa: u32,
@@ -27,40 +25,15 @@ pub struct Provider {
 }
 
 // Which file a record is of.
-#[derive(Clone, Copy)]
+#[derive(Clone, Copy, PartialEq, Eq)]
 pub struct FileName {
     pub ioa: u32,
     pub nof: Nof,
 }
 
-#[derive(Clone, Copy)]
-pub enum ProviderResult {
-    Ok(Provider),
-    Err(FtError),
-}
-
 // The record after a frame, and where the Provider stands.
-#[derive(Clone, Copy)]
+#[derive(Clone, Copy, PartialEq, Eq)]
 pub struct ProviderStep {
     pub provider: Provider,
     pub answer: ProviderAnswer,
-}
-
-// How many frames a reply has.
-#[derive(Clone, Copy)]
-pub enum CountResult {
-    Ok(usize),
-    Err(FtError),
-}
-
-#[derive(Clone, Copy)]
-pub enum FrameResult {
-    Ok(Frame),
-    Err(FtError),
-}
-
-#[derive(Clone, Copy)]
-pub enum PartResult {
-    Ok(Part),
-    Err(FtError),
 }

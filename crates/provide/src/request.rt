@@ -5,9 +5,9 @@ ghost use Rattle.provide.specs.Requests.{replying, answered_with, on_ack, is_our
 ghost use Rattle.requests.specs.declared.Reply.TheVariants.{Nothing};
 
 use crate::{Provider, ProviderStep};
-use asdu::{Afq, FtError, Header, Nos, UnknownField};
-use frame::{Frame, SomeNof, answer};
-use ft::{Reaction, Received};
+use asdu::{Afq, FtError, Nos};
+use frame::{Frame, answer};
+use ft::{Incoming, Reaction, Received};
 use requests::{ProviderAnswer, Reply};
 
 impl Provider {
@@ -25,17 +25,12 @@ impl Provider {
     fn answered(self, answer: ProviderAnswer) -> ProviderStep
         ensures { result ≡ answered_with self answer }
     {
-        if answer.is_over() {
-            let provider = self.ended();
-            return ProviderStep { provider, answer };
-        }
-        ProviderStep {
-            provider: self,
-            answer,
-        }
+        let provider = if answer.is_over() { self.ended() } else { self };
+        ProviderStep { provider, answer }
     }
 
     // An acknowledgement: whether a section follows goes by how many the file has.
+    #[tactic(auto, using(laws::proofs::Decide::decide), unfolding(crate::specs::Requests::on_ack))]
     fn on_ack(self, nos: Nos, afq: Afq) -> ProviderStep
         ensures { result ≡ on_ack self nos afq }
     {
@@ -44,32 +39,31 @@ impl Provider {
     }
 
     // Whether a request is for this object address and file.
+    #[tactic(auto, using(laws::proofs::Decide::decide), unfolding(crate::specs::Requests::is_ours))]
     fn is_ours(self, frame: Frame) -> bool
         ensures { result ≡ is_ours self frame }
     {
-        let nof = self.nof;
-        if frame.ioa() == self.ioa {
-            return answer::nof_agree(answer::nof_of(frame), SomeNof::Some(nof));
-        }
-        false
+        frame.ioa() == self.ioa && answer::agree(answer::nof_of(frame), Some(self.nof))
     }
 
     // A request for this file; the query of a log sends nothing.
+    #[tactic(auto, using(laws::proofs::Decide::decide), unfolding(crate::specs::Requests::on_sc))]
     fn on_ours(self, frame: Frame) -> ProviderStep
         ensures { result ≡ on_ours self frame }
     {
         match frame {
             Frame::Sc { nos, scq, .. } => self.answered(requests::on_sc(nos, scq)),
             Frame::Ack { nos, afq, .. } => self.on_ack(nos, afq),
-            Frame::FileReady { .. } => self.nothing(),
-            Frame::SectionReady { .. } => self.nothing(),
-            Frame::LastSection { .. } => self.nothing(),
-            Frame::Segment { .. } => self.nothing(),
-            Frame::Directory { .. } => self.nothing(),
-            Frame::QueryLog { .. } => self.nothing(),
+            Frame::FileReady { .. }
+            | Frame::SectionReady { .. }
+            | Frame::LastSection { .. }
+            | Frame::Segment { .. }
+            | Frame::Directory { .. }
+            | Frame::QueryLog { .. } => self.nothing(),
         }
     }
 
+    #[tactic(auto, using(laws::proofs::Decide::decide), unfolding(crate::specs::Requests::on_request))]
     fn on_request(self, frame: Frame) -> ProviderStep
         ensures { result ≡ on_request self frame }
     {
@@ -90,41 +84,34 @@ impl Provider {
     }
 
     // By what admission makes of the frame.
-    fn on_reaction(self, received: Received, reaction: Reaction) -> ProviderStep
+    fn on_reaction(self, received: Received, reaction: Result<Reaction, FtError>) -> ProviderStep
         ensures { result ≡ provide_admitted self received reaction }
     {
         match reaction {
-            Reaction::Requested => self.on_requested(received),
-            Reaction::Answered => self.nothing(),
-            Reaction::Refused { cause, mirror } => {
+            Ok(Reaction::Requested) => self.on_requested(received),
+            Ok(Reaction::Refused { cause, mirror }) => {
                 self.answered(ProviderAnswer::Refused { cause, mirror })
             }
-            Reaction::Discard(_) => self.nothing(),
-            Reaction::Other => self.nothing(),
-            Reaction::Err(error) => self.answered(ProviderAnswer::Err(error)),
+            Ok(Reaction::Answered) => self.nothing(),
+            Ok(Reaction::Discard(_)) => self.nothing(),
+            Ok(Reaction::Other) => self.nothing(),
+            Err(error) => self.answered(ProviderAnswer::Err(error)),
         }
     }
 
     // One received frame: 26 where record and file disagree, nothing on a record that is done, then by
     // admission. A refusal leaves the record as it came in.
-    pub fn on_asdu(
-        self,
-        file: &[u8],
-        header: Header,
-        unknown: UnknownField,
-        received: Received,
-        beside: &[u8],
-    ) -> ProviderStep
-        ensures { result ≡ provide self file.now header unknown received beside.now }
+    #[tactic(auto, using(laws::proofs::Decide::decide), unfolding(crate::specs::Requests::provide))]
+    pub fn on_asdu(self, file: &[u8], asdu: Incoming, beside: &[u8]) -> ProviderStep
+        ensures { result ≡ provide self file.now asdu.header asdu.unknown asdu.received beside.now }
     {
-        let procedure = self.procedure;
         if !self.agrees(file) {
             return self.answered(ProviderAnswer::Err(FtError::RecordMismatch));
         }
         if self.done {
             return self.nothing();
         }
-        let reaction = procedure.on_asdu(header, unknown, received, beside);
-        self.on_reaction(received, reaction)
+        let reaction = self.procedure.on_asdu(asdu, beside);
+        self.on_reaction(asdu.received, reaction)
     }
 }

@@ -9,12 +9,12 @@ use native.Mathlib.Decide.{dec_le}
 use lib.Dec.{leb}
 use lib.ListN.{length, drop, length-append}
 use borrow.Author.Tests.{eq-eqb, ne_eqb, le-leb, lt-leb}
+use Rattle.std.specs.Prelude.{Option, Some, Ok}
 use Rattle.laws.specs.When.{when, unless}
 use Rattle.laws.proofs.Decide.{when_true}
 use Rattle.asdu.specs.declared.Nos.{Nos}
 use Rattle.asdu.specs.declared.Chs.{Chs}
 use Rattle.asdu.specs.declared.Header.{Header}
-use Rattle.asdu.specs.declared.UnknownField.{UnknownField}
 use Rattle.asdu.specs.declared.FtError.TheVariants as E
 use Rattle.frame.specs.declared.Frame.{Frame}
 use Rattle.checksum.specs.Checksum.{checksum}
@@ -26,25 +26,25 @@ use Rattle.acceptance.specs.declared.Held.{Held}
 use Rattle.receive.specs.Record.{store_agrees, holding, acknowledge, awaited, stepped}
 use Rattle.receive.specs.Answers.{asks, closing, leaving, on_section_close, on_file_close, on_segment, on_answered, receive, to_send}
 use Rattle.receive.specs.declared.Sent.TheVariants.{Acknowledgement}
-use Rattle.receive.specs.declared.ToSend.TheVariants as T
 use Rattle.receive.specs.declared.Receiver.{Receiver}
 use Rattle.receive.specs.declared.ReceiverAnswer.TheVariants.{Running, Complete, FileChecksum, Err}
 use Rattle.receive.proofs.StoreLaws.{written_after, staged_part, kept_part}
+use Rattle.asdu.specs.declared.Unspecified.{Unspecified}
 
 -- an answer to what was asked is acted upon
-pub answer_heard : (r : Receiver) (store : List ℕ) (h : Header) (unknown : UnknownField) (f : Frame) (beside : List ℕ)
-    → store_agrees r store ≡ true → r.done ≡ false → on_answer r.procedure h unknown (D.Frame f) beside (awaited r) ≡ A.Answered
+pub answer_heard : (r : Receiver) (store : List ℕ) (h : Header) (unknown : Option Unspecified) (f : Frame) (beside : List ℕ)
+    → store_agrees r store ≡ true → r.done ≡ false → on_answer r.procedure h unknown (D.Frame f) beside (awaited r) ≡ Ok A.Answered
     → receive r store h unknown (D.Frame f) beside ≡ on_answered r store beside f
 unfolding receive when
 answer_heard r store h unknown f beside agrees goes admitted = simp (agrees, goes, admitted)
 
 -- a whole file is acknowledged, and so is one whose sum differs
-pub completion_sends : (r : Receiver) (h : Held) (nos : Nos) (n : ℕ) → to_send (stepped (closing r h (Acknowledgement 1 nos)) (Complete n)) ≡ T.Frame (acknowledge r 1 nos)
+pub completion_sends : (r : Receiver) (h : Held) (nos : Nos) (n : ℕ) → to_send (stepped (closing r h (Acknowledgement 1 nos)) (Complete n)) ≡ Some (acknowledge r 1 nos)
 unfolding to_send awaited when
 completion_sends r h nos n = refl
 
 pub rejection_sends : (r : Receiver) (h : Held) (nos : Nos) (expected got : Chs)
-    → to_send (stepped (closing r h (Acknowledgement 2 nos)) (FileChecksum expected got)) ≡ T.Frame (acknowledge r 2 nos)
+    → to_send (stepped (closing r h (Acknowledgement 2 nos)) (FileChecksum expected got)) ≡ Some (acknowledge r 2 nos)
 unfolding to_send awaited when
 rejection_sends r h nos expected got = refl
 

@@ -3,6 +3,7 @@ use Prim.Native.Nat.{ℕ}
 use mathlib.Core.Path.{◌≡◌, refl}
 use mathlib.Core.Bool.{Bool, true, false}
 use lib.Dec.{leb}
+use Rattle.std.specs.Prelude.{Err, Ok, Result}
 use Rattle.laws.specs.When.{when, unless}
 use Rattle.asdu.specs.Sizes.{sizes_right, max_ioa}
 use Rattle.asdu.proofs.Range.{both}
@@ -12,8 +13,6 @@ use Rattle.ft.specs.Procedure.{settled, address_right, addressed}
 use Rattle.ft.specs.declared.FileTransferProcedure.{FileTransferProcedure}
 use Rattle.receive.specs.Record.{fresh_receiver, receiver_made}
 use Rattle.receive.specs.declared.Receiver.{Receiver}
-use Rattle.receive.specs.declared.ReceiverResult.{ReceiverResult}
-use Rattle.receive.specs.declared.ReceiverResult.TheVariants.{Ok, Err}
 
 -- settings whose widths and own addresses are right
 settled_by : (p : FileTransferProcedure) → sizes_right p.sizes ≡ true → address_right p.sizes p.ca p.org ≡ true → settled p ≡ true
@@ -21,7 +20,7 @@ unfolding settled when
 settled_by p z a = simp (z, a)
 
 -- a test that is passed before an answer
-test_held : (b : Bool) (e : FtError) (y : ReceiverResult) (x : Receiver) → unless b (Err e) y ≡ Ok x → (b ≡ true) × (y ≡ Ok x)
+test_held : (b : Bool) (e : FtError) (y : Result Receiver FtError) (x : Receiver) → unless b (Err e) y ≡ Ok x → (b ≡ true) × (y ≡ Ok x)
 unfolding when
 test_held true e y x h = (refl, h)
 test_held false e y x h = (cc, cc)

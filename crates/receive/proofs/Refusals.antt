@@ -3,6 +3,7 @@ use Prim.Native.Nat.{ℕ}
 use mathlib.Core.Path.{◌≡◌, refl}
 use mathlib.Core.Bool.{Bool, true, false}
 use mathlib.Core.List.{List, []}
+use Rattle.std.specs.Prelude.{Err, Ok, Option, Result}
 use Rattle.laws.specs.When.{when}
 use Rattle.laws.proofs.Choices as C
 use Rattle.asdu.specs.declared.Nos.{Nos}
@@ -12,7 +13,6 @@ use Rattle.asdu.specs.declared.Srq.{Srq}
 use Rattle.asdu.specs.declared.Lsq.{Lsq}
 use Rattle.asdu.specs.declared.Chs.{Chs}
 use Rattle.asdu.specs.declared.Header.{Header}
-use Rattle.asdu.specs.declared.UnknownField.{UnknownField}
 use Rattle.frame.specs.declared.Frame.{Frame}
 use Rattle.frame.specs.declared.Frame.TheVariants as F
 use Rattle.ft.specs.declared.Received.{Received}
@@ -26,13 +26,14 @@ use Rattle.acceptance.specs.declared.SectionClosed.TheVariants as S
 use Rattle.acceptance.specs.declared.FileClosed.{FileClosed}
 use Rattle.acceptance.specs.declared.FileClosed.TheVariants as W
 use Rattle.ft.specs.Building.{built}
-use Rattle.ft.specs.declared.AsduResult.{AsduResult}
-use Rattle.ft.specs.declared.AsduResult.TheVariants as B
 use Rattle.receive.specs.declared.ReceiverAnswer.{ReceiverAnswer}
 use Rattle.receive.specs.Record.{held_by, select, awaited, stepped, started_with, started}
 use Rattle.receive.specs.Answers.{Outcome, leaving, on_file_ready, on_section_ready, after_section_close, on_section_close, after_file_close, on_file_close, on_close, on_segment, on_answered, on_received, receive_admitted, receive, is_refusal}
 use Rattle.receive.specs.declared.Receiver.{Receiver}
 use Rattle.receive.specs.declared.ReceiverStep.{ReceiverStep}
+use Rattle.asdu.specs.declared.FtError.{FtError}
+use Rattle.asdu.specs.declared.Unspecified.{Unspecified}
+use Rattle.ft.specs.declared.Asdu.{Asdu}
 
 module _ (r : Receiver) (store : List ℕ) where
   -- a step that keeps the record, if its answer is a refusal
@@ -111,28 +112,28 @@ module _ (r : Receiver) (store : List ℕ) where
   received_keeps payload (D.Frame f) = answered_keeps payload f
   received_keeps payload D.Undecodable = same_all _
 
-  admitted_keeps : (payload : List ℕ) (received : Received) (a : Reaction) → KeepsAll (receive_admitted r store payload received a)
-  admitted_keeps payload received A.Requested = same_all _
-  admitted_keeps payload received A.Answered = received_keeps payload received
-  admitted_keeps payload received (A.Refused cause mirror) = other_all _ refl
-  admitted_keeps payload received (A.Discard why) = same_all _
-  admitted_keeps payload received A.Other = same_all _
-  admitted_keeps payload received (A.Err x) = same_all _
+  admitted_keeps : (payload : List ℕ) (received : Received) (a : Result Reaction FtError) → KeepsAll (receive_admitted r store payload received a)
+  admitted_keeps payload received (Ok A.Requested) = same_all _
+  admitted_keeps payload received (Ok A.Answered) = received_keeps payload received
+  admitted_keeps payload received (Ok (A.Refused cause mirror)) = other_all _ refl
+  admitted_keeps payload received (Ok (A.Discard why)) = same_all _
+  admitted_keeps payload received (Ok A.Other) = same_all _
+  admitted_keeps payload received (Err x) = same_all _
 
-  receive_keeps : (h : Header) (unknown : UnknownField) (received : Received) (beside : List ℕ)
+  receive_keeps : (h : Header) (unknown : Option Unspecified) (received : Received) (beside : List ℕ)
       → KeepsAll (receive r store h unknown received beside)
   unfolding receive
   receive_keeps h unknown received beside =
       either_all _ _ _ (either_all _ _ _ (same_all _) (admitted_keeps beside received (on_answer r.procedure h unknown received beside (awaited r)))) (same_all _)
 
-  pub refusal_keeps : (h : Header) (unknown : UnknownField) (received : Received) (beside : List ℕ)
+  pub refusal_keeps : (h : Header) (unknown : Option Unspecified) (received : Received) (beside : List ℕ)
       → is_refusal (receive r store h unknown received beside).step.answer ≡ true
       → ((receive r store h unknown received beside).step.receiver ≡ r) × ((receive r store h unknown received beside).store ≡ store)
   refusal_keeps h unknown received beside = (receive_keeps h unknown received beside).keeps
 
-  start_with : (a : AsduResult) → Keeps (started_with r a)
-  start_with (B.Ok a) = other _ refl
-  start_with (B.Err x) = same _
+  start_with : (a : Result Asdu FtError) → Keeps (started_with r a)
+  start_with (Ok a) = other _ refl
+  start_with (Err x) = same _
 
   started_keeps : Keeps (started r store)
   unfolding started

@@ -6,6 +6,7 @@ use mathlib.Core.List.{List}
 use lib.Dec.{leb}
 use lib.ListN.{length}
 use borrow.Author.Tests.{leb-true}
+use Rattle.std.specs.Prelude.{Err, Ok}
 use Rattle.laws.specs.When.{when, unless}
 use Rattle.asdu.specs.Sizes.{sizes_right, max_ioa}
 use Rattle.asdu.specs.Elements.{scq_in_range}
@@ -16,7 +17,6 @@ use Rattle.ft.specs.Procedure.{settled, address_right, addressed}
 use Rattle.ft.specs.Admission.{serves}
 use Rattle.ft.specs.Building.{header_of, framed, built}
 use Rattle.ft.specs.declared.Asdu.{Asdu}
-use Rattle.ft.specs.declared.AsduResult.TheVariants as A
 use Rattle.receive.specs.Record.{store_agrees, awaiting, opening, select, stepped, started_with, started}
 use Rattle.receive.specs.declared.Receiver.{Receiver}
 use Rattle.receive.specs.declared.ReceiverAnswer.TheVariants.{Send, Err}
@@ -38,7 +38,7 @@ pub agrees_held : (r : Receiver) (store : List ℕ) → store_agrees r store ≡
 agrees_held r store e = leb-true (r.kept + r.staged) (length store) (agrees r store e).held
 
 started_when : (r : Receiver) (u s : Bool) (a : Asdu)
-    → started_with r (unless u (A.Err E.FunctionNotUsed) (unless s (A.Err E.NotSelectedDirection) (A.Ok a)))
+    → started_with r (unless u (Err E.FunctionNotUsed) (unless s (Err E.NotSelectedDirection) (Ok a)))
     ≡ unless u (stepped r (Err E.FunctionNotUsed))
     (unless s (stepped r (Err E.NotSelectedDirection)) (stepped (awaiting r opening) Send))
 unfolding when

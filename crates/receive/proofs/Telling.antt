@@ -2,6 +2,7 @@
 use Prim.Native.Nat.{ℕ}
 use mathlib.Core.Path.{◌≡◌, refl}
 use mathlib.Core.List.{List}
+use Rattle.std.specs.Prelude.{Err, Ok, Result}
 use Rattle.frame.specs.declared.Frame.{Frame}
 use Rattle.frame.specs.declared.Frame.TheVariants as F
 use Rattle.ft.specs.declared.Received.{Received}
@@ -11,6 +12,7 @@ use Rattle.ft.specs.declared.Reaction.TheVariants as A
 use Rattle.receive.specs.Answers.{on_answered, on_received, receive_admitted}
 use Rattle.receive.specs.Told.{told_by_frame, told_by, told_of, on_told}
 use Rattle.receive.specs.declared.Receiver.{Receiver}
+use Rattle.asdu.specs.declared.FtError.{FtError}
 
 module _ (r : Receiver) (store payload : List ℕ) where
   frame_told : (f : Frame) → on_answered r store payload f ≡ on_told r store payload (told_by_frame f)
@@ -27,10 +29,10 @@ module _ (r : Receiver) (store payload : List ℕ) where
   received_told (D.Frame f) = frame_told f
   received_told D.Undecodable = refl
 
-  pub told_is : (x : Received) (a : Reaction) → receive_admitted r store payload x a ≡ on_told r store payload (told_of x a)
-  told_is x A.Requested = refl
-  told_is x A.Answered = received_told x
-  told_is x (A.Refused cause mirror) = refl
-  told_is x (A.Discard why) = refl
-  told_is x A.Other = refl
-  told_is x (A.Err e) = refl
+  pub told_is : (x : Received) (a : Result Reaction FtError) → receive_admitted r store payload x a ≡ on_told r store payload (told_of x a)
+  told_is x (Ok A.Requested) = refl
+  told_is x (Ok A.Answered) = received_told x
+  told_is x (Ok (A.Refused cause mirror)) = refl
+  told_is x (Ok (A.Discard why)) = refl
+  told_is x (Ok A.Other) = refl
+  told_is x (Err e) = refl

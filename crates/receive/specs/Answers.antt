@@ -1,5 +1,5 @@
 -- What a Receiver makes of a received frame, with the store after it (document 01, The Receiver's record; IEC 60870-5-101, 7.4.11).
-use Rattle.std.specs.Prelude.{ℕ, ◌+◌, Bool, true, false, List, eqb, leb, length}
+use Rattle.std.specs.Prelude.{ℕ, ◌+◌, Bool, true, false, List, eqb, leb, length, Option, Some, None, Result, Ok, Err}
 use Rattle.laws.specs.When.{when, unless, ◌or◌}
 use Rattle.asdu.specs.Codes.{REQUEST_FILE, REQUEST_SECTION, FILE_POSITIVE, FILE_NEGATIVE, SECTION_POSITIVE, SECTION_NEGATIVE}
 use Rattle.asdu.specs.declared.Nos.{Nos}
@@ -9,7 +9,6 @@ use Rattle.asdu.specs.declared.Srq.{Srq}
 use Rattle.asdu.specs.declared.Lsq.{Lsq}
 use Rattle.asdu.specs.declared.Chs.{Chs}
 use Rattle.asdu.specs.declared.Header.{Header}
-use Rattle.asdu.specs.declared.UnknownField.{UnknownField}
 use Rattle.asdu.specs.declared.FtError.TheVariants as E
 use Rattle.frame.specs.declared.Frame.{Frame}
 use Rattle.frame.specs.declared.Frame.TheVariants as F
@@ -30,10 +29,10 @@ use Rattle.receive.specs.declared.Sent.{Sent}
 use Rattle.receive.specs.declared.Sent.TheVariants.{Request, Acknowledgement}
 use Rattle.receive.specs.declared.Receiver.{Receiver}
 use Rattle.receive.specs.declared.ReceiverStep.{ReceiverStep}
-use Rattle.receive.specs.declared.ToSend.{ToSend}
-use Rattle.receive.specs.declared.ToSend.TheVariants as T
 use Rattle.receive.specs.declared.ReceiverAnswer.{ReceiverAnswer}
 use Rattle.receive.specs.declared.ReceiverAnswer.TheVariants.{Running, Send, Complete, FileNotReady, SectionNotReady, FileChecksum, UnknownLsq, Refused, Err}
+use Rattle.asdu.specs.declared.Unspecified.{Unspecified}
+use Rattle.asdu.specs.declared.FtError.{FtError}
 
 -- ---- steps that leave the store as it is
 
@@ -109,16 +108,16 @@ on_received r store payload (D.Frame f) = on_answered r store payload f
 on_received r store payload D.Undecodable = leaving store (stepped r Running)
 
 -- by what admission makes of the frame
-abbrev pub receive_admitted : Receiver → List ℕ → List ℕ → Received → Reaction → Outcome
-receive_admitted r store payload received A.Requested = leaving store (stepped r Running)
-receive_admitted r store payload received A.Answered = on_received r store payload received
-receive_admitted r store payload received (A.Refused cause mirror) = leaving store (stepped (ended r) (Refused cause mirror))
-receive_admitted r store payload received (A.Discard why) = leaving store (stepped r Running)
-receive_admitted r store payload received A.Other = leaving store (stepped r Running)
-receive_admitted r store payload received (A.Err e) = leaving store (stepped r (Err e))
+abbrev pub receive_admitted : Receiver → List ℕ → List ℕ → Received → Result Reaction FtError → Outcome
+receive_admitted r store payload received (Ok A.Requested) = leaving store (stepped r Running)
+receive_admitted r store payload received (Ok A.Answered) = on_received r store payload received
+receive_admitted r store payload received (Ok (A.Refused cause mirror)) = leaving store (stepped (ended r) (Refused cause mirror))
+receive_admitted r store payload received (Ok (A.Discard why)) = leaving store (stepped r Running)
+receive_admitted r store payload received (Ok A.Other) = leaving store (stepped r Running)
+receive_admitted r store payload received (Err e) = leaving store (stepped r (Err e))
 
 -- one frame handed to the Receiver, with what stands beside it: 26 first, then a done record is answered with nothing, then admission with 23; 24 last
-unfoldable pub receive : Receiver → List ℕ → Header → UnknownField → Received → List ℕ → Outcome
+unfoldable pub receive : Receiver → List ℕ → Header → Option Unspecified → Received → List ℕ → Outcome
 receive r store h unknown received beside =
     unless (store_agrees r store) (leaving store (stepped r (Err E.RecordMismatch)))
     (when r.done (leaving store (stepped r Running))
@@ -139,8 +138,8 @@ sends (Refused cause mirror) = false
 sends (Err e) = false
 
 -- it is the one whose answer the record now awaits
-unfoldable pub to_send : ReceiverStep → ToSend
-to_send s = when (sends s.answer) (T.Frame (awaited s.receiver)) T.Nothing
+unfoldable pub to_send : ReceiverStep → Option Frame
+to_send s = when (sends s.answer) (Some (awaited s.receiver)) None
 
 -- whether an answer is a numbered refusal
 abbrev pub is_refusal : ReceiverAnswer → Bool

@@ -1,5 +1,5 @@
 -- The Receiver's record: its making, when it and a lent store agree, and the requests and acknowledgements that it sends (document 01, The Receiver's record).
-use Rattle.std.specs.Prelude.{ℕ, ◌+◌, min, Bool, true, false, List, [], leb, length}
+use Rattle.std.specs.Prelude.{ℕ, ◌+◌, min, Bool, true, false, List, [], leb, length, Option, Some, None, Result, Ok, Err}
 use Rattle.laws.specs.When.{unless, ◌and◌}
 use Rattle.asdu.specs.Sizes.{sizes_right, max_ioa}
 use Rattle.asdu.specs.Codes.{SELECT_FILE}
@@ -13,27 +13,23 @@ use Rattle.frame.specs.declared.Frame.TheVariants as F
 use Rattle.ft.specs.Procedure.{settled, addressed}
 use Rattle.ft.specs.Building.{built}
 use Rattle.ft.specs.declared.FileTransferProcedure.{FileTransferProcedure}
-use Rattle.ft.specs.declared.AsduResult.{AsduResult}
-use Rattle.ft.specs.declared.AsduResult.TheVariants as A
 use Rattle.receive.specs.declared.Sent.{Sent}
 use Rattle.receive.specs.declared.Sent.TheVariants as S
-use Rattle.receive.specs.declared.Length.{Length}
-use Rattle.receive.specs.declared.Length.TheVariants.{Unknown, Known}
 use Rattle.receive.specs.declared.Receiver.{Receiver}
-use Rattle.receive.specs.declared.ReceiverResult.{ReceiverResult}
-use Rattle.receive.specs.declared.ReceiverResult.TheVariants.{Ok, Err}
 use Rattle.receive.specs.declared.ReceiverStep.{ReceiverStep}
 use Rattle.receive.specs.declared.ReceiverAnswer.{ReceiverAnswer}
 use Rattle.receive.specs.declared.ReceiverAnswer.TheVariants as R
+use Rattle.asdu.specs.declared.FtError.{FtError}
+use Rattle.ft.specs.declared.Asdu.{Asdu}
 
 -- ---- the making
 
 abbrev pub fresh_receiver : FileTransferProcedure → ℕ → Nof → Receiver
 fresh_receiver p ioa nof =
-    record { procedure = p; ioa = ioa; nof = nof; sent = S.Nothing; length = Unknown; kept = 0; staged = 0; done = false }
+    record { procedure = p; ioa = ioa; nof = nof; sent = S.Nothing; length = None; kept = 0; staged = 0; done = false }
 
 -- 2, then 3 for the own addresses and the object address
-unfoldable pub receiver_made : FileTransferProcedure → ℕ → Nof → ReceiverResult
+unfoldable pub receiver_made : FileTransferProcedure → ℕ → Nof → Result Receiver FtError
 receiver_made p ioa nof =
     unless (sizes_right p.sizes) (Err E.InvalidAddressSizes)
     (unless (addressed p.sizes p.ca p.org ioa) (Err E.AddressOutOfRange)
@@ -49,7 +45,7 @@ store_agrees r store =
 -- ---- the record
 
 -- the same transfer with another state
-abbrev pub with_state : Receiver → Sent → Length → ℕ → ℕ → Bool → Receiver
+abbrev pub with_state : Receiver → Sent → Option ℕ → ℕ → ℕ → Bool → Receiver
 with_state r sent len kept staged done =
     record { procedure = r.procedure; ioa = r.ioa; nof = r.nof; sent = sent; length = len; kept = kept; staged = staged; done = done }
 
@@ -62,7 +58,7 @@ abbrev pub holding : Receiver → ℕ → ℕ → Receiver
 holding r kept staged = with_state r r.sent r.length kept staged r.done
 
 abbrev pub stating : Receiver → ℕ → Receiver
-stating r n = with_state r r.sent (Known n) r.kept r.staged r.done
+stating r n = with_state r r.sent (Some n) r.kept r.staged r.done
 
 abbrev pub ended : Receiver → Receiver
 ended r = with_state r r.sent r.length r.kept r.staged true
@@ -109,9 +105,9 @@ awaited r = frame_of r.ioa r.nof r.sent
 abbrev pub stepped : Receiver → ReceiverAnswer → ReceiverStep
 stepped r a = record { receiver = r; answer = a }
 
-abbrev pub started_with : Receiver → AsduResult → ReceiverStep
-started_with r (A.Ok a) = stepped (awaiting r opening) R.Send
-started_with r (A.Err e) = stepped r (R.Err e)
+abbrev pub started_with : Receiver → Result Asdu FtError → ReceiverStep
+started_with r (Ok a) = stepped (awaiting r opening) R.Send
+started_with r (Err e) = stepped r (R.Err e)
 
 -- 26, then what `build` refuses of the select; a done record starts too, and nothing but what was sent changes
 unfoldable pub started : Receiver → List ℕ → ReceiverStep

@@ -1,5 +1,5 @@
 -- What a received frame tells a Receiver, in brief: the little that its step goes by. Only the Receiver's own functions cite it; that it says the same as `receive_admitted` (Answers.antt) is `told_is` (proofs/Telling.antt).
-use Rattle.std.specs.Prelude.{ℕ, List}
+use Rattle.std.specs.Prelude.{ℕ, List, Result, Ok, Err}
 use Rattle.frame.specs.declared.Frame.{Frame}
 use Rattle.frame.specs.declared.Frame.TheVariants as F
 use Rattle.ft.specs.declared.Received.{Received}
@@ -12,6 +12,7 @@ use Rattle.receive.specs.declared.Receiver.{Receiver}
 use Rattle.receive.specs.declared.ReceiverAnswer.TheVariants as R
 use Rattle.receive.specs.declared.answered.Told.{Told}
 use Rattle.receive.specs.declared.answered.Told.TheVariants as T
+use Rattle.asdu.specs.declared.FtError.{FtError}
 
 -- a frame that answers
 abbrev pub told_by_frame : Frame → Told
@@ -29,13 +30,13 @@ told_by (D.Frame f) = told_by_frame f
 told_by D.Undecodable = T.Nothing
 
 -- by what admission makes of it
-abbrev pub told_of : Received → Reaction → Told
-told_of received A.Requested = T.Nothing
-told_of received A.Answered = told_by received
-told_of received (A.Refused cause mirror) = T.Refused cause mirror
-told_of received (A.Discard why) = T.Nothing
-told_of received A.Other = T.Nothing
-told_of received (A.Err e) = T.Err e
+abbrev pub told_of : Received → Result Reaction FtError → Told
+told_of received (Ok A.Requested) = T.Nothing
+told_of received (Ok A.Answered) = told_by received
+told_of received (Ok (A.Refused cause mirror)) = T.Refused cause mirror
+told_of received (Ok (A.Discard why)) = T.Nothing
+told_of received (Ok A.Other) = T.Nothing
+told_of received (Err e) = T.Err e
 
 abbrev pub on_told : Receiver → List ℕ → List ℕ → Told → Outcome
 on_told r store payload T.Nothing = leaving store (stepped r R.Running)

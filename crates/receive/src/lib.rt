@@ -7,47 +7,36 @@ mod record; // the record: its making, what it holds and what it sends
 mod step; // what a step makes of the record
 
 use asdu::{Cause, Chs, Frq, FtError, Lsq, Nof, Nos, Srq};
-use frame::Frame;
 use ft::FileTransferProcedure;
 
 // What a Receiver last sent of its file: a request or an acknowledgement, by its action and section.
-#[derive(Clone, Copy)]
+#[derive(Clone, Copy, PartialEq, Eq)]
 pub enum Sent {
     Nothing,
     Request { action: u8, nos: Nos },
     Acknowledgement { action: u8, nos: Nos },
 }
 
-// The file's length as the file ready stated it.
-#[derive(Clone, Copy)]
-pub enum Length {
-    Unknown,
-    Known(u32),
-}
-
 // The record of one file's transfer.
-#[derive(Clone, Copy)]
+#[derive(Clone, Copy, PartialEq, Eq)]
 pub struct Receiver {
     pub procedure: FileTransferProcedure,
     pub ioa: u32,
     pub nof: Nof,
     // `awaited` makes the frame of it.
     pub sent: Sent,
-    pub length: Length,
-    // Octets of the store that are accepted, and those after them that are under way.
+    // The file's length as the file ready stated it.
+    pub length: Option<u32>,
+    // Octets of the store that are accepted, and those after them that are under way: two fields, by which the
+    // definitions and theorems of whole exchanges go.
     pub kept: usize,
     pub staged: usize,
     pub done: bool,
 }
 
-#[derive(Clone, Copy)]
-pub enum ReceiverResult {
-    Ok(Receiver),
-    Err(FtError),
-}
-
-// Where a Receiver stands after a frame. What is then to be sent, `ReceiverStep::to_send` says.
-#[derive(Clone, Copy)]
+// Where a Receiver stands after a frame, or its numbered refusal: a case here and no `Err` of a `Result`, so
+// that `sends` is one table over all answers. What is then to be sent, `ReceiverStep::to_send` says.
+#[derive(Clone, Copy, PartialEq, Eq)]
 pub enum ReceiverAnswer {
     Running,
     Send,
@@ -61,15 +50,8 @@ pub enum ReceiverAnswer {
     Err(FtError),
 }
 
-#[derive(Clone, Copy)]
+#[derive(Clone, Copy, PartialEq, Eq)]
 pub struct ReceiverStep {
     pub receiver: Receiver,
     pub answer: ReceiverAnswer,
-}
-
-// The frame that a step sends, if it sends one.
-#[derive(Clone, Copy)]
-pub enum ToSend {
-    Nothing,
-    Frame(Frame),
 }

@@ -3,7 +3,7 @@
 ghost use Rattle.std.specs.Prelude.{◌≡◌};
 ghost use Rattle.receive.specs.Record.{fresh_receiver, receiver_made, store_agrees, received_octets, request, acknowledge, awaited, started};
 
-use crate::{Length, Receiver, ReceiverResult, ReceiverStep, Sent};
+use crate::{Receiver, ReceiverStep, Sent};
 use asdu::{Afq, FtError, Nof, Nos, Scq};
 use frame::Frame;
 use ft::{FileTransferProcedure, procedure};
@@ -18,7 +18,7 @@ impl Receiver {
             ioa,
             nof,
             sent: Sent::Nothing,
-            length: Length::Unknown,
+            length: None,
             kept: 0,
             staged: 0,
             done: false,
@@ -27,55 +27,51 @@ impl Receiver {
 
     // A record for the file of this name at this object address: 2 for widths that no system has, 3
     // for addresses that do not fit them.
-    pub fn new(procedure: FileTransferProcedure, ioa: u32, nof: Nof) -> ReceiverResult
+    #[tactic(auto, using(laws::proofs::Decide::decide), unfolding(crate::specs::Record::receiver_made))]
+    pub fn new(procedure: FileTransferProcedure, ioa: u32, nof: Nof) -> Result<Receiver, FtError>
         ensures { result ≡ receiver_made procedure ioa nof }
     {
-        let sizes = procedure.sizes;
-        if !sizes.is_right() {
-            return ReceiverResult::Err(FtError::InvalidAddressSizes);
+        if !procedure.sizes.is_right() {
+            return Err(FtError::InvalidAddressSizes);
         }
-        if !procedure::is_addressed(sizes, procedure.ca, procedure.org, ioa) {
-            return ReceiverResult::Err(FtError::AddressOutOfRange);
+        if !procedure::is_addressed(procedure.sizes, procedure.ca, procedure.org, ioa) {
+            return Err(FtError::AddressOutOfRange);
         }
-        ReceiverResult::Ok(Receiver::fresh(procedure, ioa, nof))
+        Ok(Receiver::fresh(procedure, ioa, nof))
     }
 
     // The file's length, once the file ready has stated it.
-    pub fn length(self) -> Length
+    pub fn length(self) -> Option<u32>
         ensures { result ≡ self.length }
     {
         self.length
     }
 
     // How many octets have arrived so far, accepted and under way.
+    #[tactic(auto, using(laws::proofs::Decide::decide), unfolding(crate::specs::Record::received_octets))]
     pub fn received(self) -> usize
         ensures { result ≡ received_octets self }
     {
-        counts::saturating_sum(self.kept, self.staged)
+        self.kept.saturating_add(self.staged)
     }
 
     // Whether a making gives this record and the store holds its octets: else 26.
+    #[tactic(auto, using(laws::proofs::Decide::decide), unfolding(crate::specs::Record::store_agrees))]
     pub fn agrees(self, store: &[u8]) -> bool
         ensures { result ≡ store_agrees self store.now }
     {
-        let procedure = self.procedure;
-        let sizes = procedure.sizes;
-        if procedure.is_settled() {
-            if self.ioa <= sizes.max_ioa() {
-                return store::is_held(self.kept, self.staged, store.len());
-            }
-        }
-        false
+        self.procedure.is_settled()
+            && self.ioa <= self.procedure.sizes.max_ioa()
+            && store::is_held(self.kept, self.staged, store.len())
     }
 
     // A select or a call for this file.
     fn request(self, action: u8, nos: Nos) -> Frame
         ensures { result ≡ request self action nos }
     {
-        let nof = self.nof;
         Frame::Sc {
             ioa: self.ioa,
-            nof,
+            nof: self.nof,
             nos,
             scq: Scq { action, error: 0 },
         }
@@ -85,10 +81,9 @@ impl Receiver {
     fn acknowledge(self, action: u8, nos: Nos) -> Frame
         ensures { result ≡ acknowledge self action nos }
     {
-        let nof = self.nof;
         Frame::Ack {
             ioa: self.ioa,
-            nof,
+            nof: self.nof,
             nos,
             afq: Afq { action, error: 0 },
         }
@@ -96,14 +91,14 @@ impl Receiver {
 
     // The frame last sent, whose answer is awaited. Before a start it is the select, so that a file that
     // is offered opens the transfer too.
+    #[tactic(auto, using(laws::proofs::Decide::decide), unfolding(crate::specs::Record::awaited))]
     pub fn awaited(self) -> Frame
         ensures { result ≡ awaited self }
     {
-        let sent = self.sent;
-        match sent {
-            Sent::Nothing => return self.request(Scq::SELECT_FILE, Nos { value: 0 }),
-            Sent::Request { action, nos } => return self.request(action, nos),
-            Sent::Acknowledgement { action, nos } => return self.acknowledge(action, nos),
+        match self.sent {
+            Sent::Nothing => self.request(Scq::SELECT_FILE, Nos { value: 0 }),
+            Sent::Request { action, nos } => self.request(action, nos),
+            Sent::Acknowledgement { action, nos } => self.acknowledge(action, nos),
         }
     }
 
@@ -112,16 +107,13 @@ impl Receiver {
     pub fn start(self, store: &[u8]) -> ReceiverStep
         ensures { result ≡ started self store.now }
     {
-        let procedure = self.procedure;
-        let role = procedure.role;
-        let selection = procedure.selection;
         if !self.agrees(store) {
             return self.refuses(FtError::RecordMismatch);
         }
-        if !selection.uses_function() {
+        if !self.procedure.selection.uses_function() {
             return self.refuses(FtError::FunctionNotUsed);
         }
-        if !procedure.serves(role, true) {
+        if !self.procedure.serves(self.procedure.role, true) {
             return self.refuses(FtError::NotSelectedDirection);
         }
         self.asks(Sent::Request {

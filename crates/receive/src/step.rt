@@ -5,9 +5,10 @@ ghost use Rattle.receive.specs.Record.{awaiting, holding, stating, ended, steppe
 ghost use Rattle.receive.specs.Answers.{asks, sends, to_send};
 ghost use Rattle.receive.specs.declared.ReceiverAnswer.TheVariants.{Running, Err};
 
-use crate::{Length, Receiver, ReceiverAnswer, ReceiverStep, Sent, ToSend};
+use crate::{Receiver, ReceiverAnswer, ReceiverStep, Sent};
 use acceptance::Held;
 use asdu::FtError;
+use frame::Frame;
 
 impl Receiver {
     // Nothing is sent, and the record stays.
@@ -34,10 +35,8 @@ impl Receiver {
     pub(crate) fn ends(self, answer: ReceiverAnswer) -> ReceiverStep
         ensures { result ≡ stepped (ended self) answer }
     {
-        let mut next = self;
-        next.done = true;
         ReceiverStep {
-            receiver: next,
+            receiver: Receiver { done: true, ..self },
             answer,
         }
     }
@@ -46,47 +45,28 @@ impl Receiver {
     pub(crate) fn holding(self, held: Held) -> Receiver
         ensures { result ≡ holding self held.kept held.staged }
     {
-        let mut next = self;
-        next.kept = held.kept;
-        next.staged = held.staged;
-        next
+        let Held { kept, staged } = held;
+        Receiver {
+            kept,
+            staged,
+            ..self
+        }
     }
 
     // The record with the answer to this awaited.
     pub(crate) fn awaiting(self, sent: Sent) -> Receiver
         ensures { result ≡ awaiting self sent }
     {
-        let procedure = self.procedure;
-        let nof = self.nof;
-        let length = self.length;
-        Receiver {
-            procedure,
-            ioa: self.ioa,
-            nof,
-            sent,
-            length,
-            kept: self.kept,
-            staged: self.staged,
-            done: self.done,
-        }
+        Receiver { sent, ..self }
     }
 
     // The record with the file's length as stated.
     pub(crate) fn stating(self, length: u32) -> Receiver
         ensures { result ≡ stating self length }
     {
-        let procedure = self.procedure;
-        let nof = self.nof;
-        let sent = self.sent;
         Receiver {
-            procedure,
-            ioa: self.ioa,
-            nof,
-            sent,
-            length: Length::Known(length),
-            kept: self.kept,
-            staged: self.staged,
-            done: self.done,
+            length: Some(length),
+            ..self
         }
     }
 
@@ -106,31 +86,25 @@ impl ReceiverAnswer {
     pub fn sends(self) -> bool
         ensures { result ≡ sends self }
     {
-        match self {
-            ReceiverAnswer::Running => false,
-            ReceiverAnswer::Send => true,
-            ReceiverAnswer::Complete { .. } => true,
-            ReceiverAnswer::FileNotReady { .. } => false,
-            ReceiverAnswer::SectionNotReady { .. } => false,
-            ReceiverAnswer::FileChecksum { .. } => true,
-            ReceiverAnswer::UnknownLsq(_) => false,
-            ReceiverAnswer::Refused { .. } => false,
-            ReceiverAnswer::Err(_) => false,
-        }
+        matches!(
+            self,
+            ReceiverAnswer::Send
+                | ReceiverAnswer::Complete { .. }
+                | ReceiverAnswer::FileChecksum { .. }
+        )
     }
 }
 
 impl ReceiverStep {
     // The frame that is to be sent: the one whose answer the record now awaits, the acknowledgement
     // of a whole file or of one whose sum differs included; or none.
-    pub fn to_send(self) -> ToSend
+    #[tactic(auto, using(laws::proofs::Decide::decide), unfolding(crate::specs::Answers::to_send))]
+    pub fn to_send(self) -> Option<Frame>
         ensures { result ≡ to_send self }
     {
-        let answer = self.answer;
-        let receiver = self.receiver;
-        if answer.sends() {
-            return ToSend::Frame(receiver.awaited());
+        if self.answer.sends() {
+            return Some(self.receiver.awaited());
         }
-        ToSend::Nothing
+        None
     }
 }

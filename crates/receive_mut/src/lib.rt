@@ -6,8 +6,7 @@
 ghost use Rattle.std.specs.Prelude.{◌≡◌};
 ghost use Rattle.receive.specs.Answers.{receive};
 
-use asdu::{Header, UnknownField};
-use ft::Received;
+use ft::Incoming;
 use receive::{Receiver, ReceiverAnswer};
 
 // One frame handed to the Receiver, with what stands beside it: the step of `Receiver::on_asdu`, whose
@@ -15,15 +14,12 @@ use receive::{Receiver, ReceiverAnswer};
 pub fn on_asdu(
     receiver: &mut Receiver,
     store: &mut [u8],
-    header: Header,
-    unknown: UnknownField,
-    received: Received,
+    asdu: Incoming,
     beside: &[u8],
 ) -> ReceiverAnswer
-    ensures { (receiver.new ≡ (receive receiver.old store.old header unknown received beside.now).step.receiver) × ((result ≡ (receive receiver.old store.old header unknown received beside.now).step.answer) × (store.new ≡ (receive receiver.old store.old header unknown received beside.now).store)) }
+    ensures { (receiver.new ≡ (receive receiver.old store.old asdu.header asdu.unknown asdu.received beside.now).step.receiver) × ((result ≡ (receive receiver.old store.old asdu.header asdu.unknown asdu.received beside.now).step.answer) × (store.new ≡ (receive receiver.old store.old asdu.header asdu.unknown asdu.received beside.now).store)) }
 {
-    let before = *receiver;
-    let step = before.on_asdu(store, header, unknown, received, beside);
+    let step = receiver.on_asdu(store, asdu, beside);
     *receiver = step.receiver;
     step.answer
 }

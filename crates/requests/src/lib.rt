@@ -8,7 +8,7 @@ ghost use Rattle.requests.specs.Answers.{is_over, sc_answer, after_section, ack_
 use asdu::{Afq, Cause, FtError, Nos, Scq};
 
 // What a Provider sends: its frames are counted, and each is made when it is asked for by its index.
-#[derive(Clone, Copy)]
+#[derive(Clone, Copy, PartialEq, Eq)]
 pub enum Reply {
     Nothing,
     FileReady,
@@ -18,8 +18,9 @@ pub enum Reply {
     FileClose(Nos),
 }
 
-// Where a Provider stands after a frame.
-#[derive(Clone, Copy)]
+// Where a Provider stands after a frame, or its numbered refusal: a case here and no `Err` of a `Result`, so
+// that `is_over` is one table over all answers.
+#[derive(Clone, Copy, PartialEq, Eq)]
 pub enum ProviderAnswer {
     Running(Reply),
     Complete,
@@ -36,11 +37,11 @@ impl ProviderAnswer {
     {
         match self {
             ProviderAnswer::Running(_) => false,
-            ProviderAnswer::Complete => true,
-            ProviderAnswer::Deactivated { .. } => true,
-            ProviderAnswer::FileRejected { .. } => true,
-            ProviderAnswer::Refused { .. } => true,
             ProviderAnswer::Err(_) => false,
+            ProviderAnswer::Complete
+            | ProviderAnswer::Deactivated { .. }
+            | ProviderAnswer::FileRejected { .. }
+            | ProviderAnswer::Refused { .. } => true,
         }
     }
 }
@@ -50,8 +51,7 @@ impl ProviderAnswer {
 pub fn on_sc(nos: Nos, scq: Scq) -> ProviderAnswer
     ensures { result ≡ sc_answer nos scq }
 {
-    let action = scq.action;
-    match action {
+    match scq.action {
         Scq::SELECT_FILE => ProviderAnswer::Running(Reply::FileReady),
         Scq::REQUEST_FILE => ProviderAnswer::Running(Reply::SectionReady(Nos { value: 1 })),
         Scq::SELECT_SECTION => ProviderAnswer::Running(Reply::SectionReady(nos)),
@@ -65,9 +65,10 @@ pub fn on_sc(nos: Nos, scq: Scq) -> ProviderAnswer
 fn after_section(sections: u8, nos: Nos) -> Reply
     ensures { result ≡ after_section sections nos }
 {
-    let name = nos.value;
-    if name < sections {
-        return Reply::SectionReady(Nos { value: name + 1 });
+    if nos.value < sections {
+        return Reply::SectionReady(Nos {
+            value: nos.value + 1,
+        });
     }
     Reply::FileClose(nos)
 }
@@ -76,8 +77,7 @@ fn after_section(sections: u8, nos: Nos) -> Reply
 pub fn on_ack(sections: u8, nos: Nos, afq: Afq) -> ProviderAnswer
     ensures { result ≡ ack_answer sections nos afq }
 {
-    let action = afq.action;
-    match action {
+    match afq.action {
         Afq::SECTION_POSITIVE => ProviderAnswer::Running(after_section(sections, nos)),
         Afq::SECTION_NEGATIVE => ProviderAnswer::Running(Reply::Section(nos)),
         Afq::FILE_POSITIVE => ProviderAnswer::Complete,

@@ -8,6 +8,7 @@ use native.Mathlib.Omega.{arith}
 use lib.Dec.{leb}
 use lib.ListN.{length, drop}
 use borrow.Author.Tests.{leb-true, ltb-true}
+use Rattle.std.specs.Prelude.{Err, Ok}
 use Rattle.laws.specs.When.{when}
 use Rattle.asdu.specs.Sizes.{sizes_right, max_common_address, segment_limit}
 use Rattle.asdu.specs.declared.FtError.{FtError}
@@ -36,8 +37,7 @@ use Rattle.radio.specs.Radio.{all_have_octets}
 use Rattle.run.specs.Run.{exchange_of, ending, refused, two_party, script_frames}
 use Rattle.twoparty.specs.declared.Settings.{Settings}
 use Rattle.twoparty.specs.declared.TwoParty.{TwoParty}
-use Rattle.twoparty.specs.declared.TwoPartyResult.TheVariants as T
-use Rattle.run.specs.declared.RunResult.TheVariants.{Whole, Spent}
+use Rattle.run.specs.declared.Ending.TheVariants.{Whole, Spent}
 use Rattle.radio.proofs.Named.{nameable}
 use Rattle.run.proofs.Running.{Accepted, providing, receiving, beginning, provider_is_made, receiver_is_made, run_is}
 
@@ -47,14 +47,14 @@ module _ (s : Settings) (file damage store : List ℕ) where
     unfolding two_party when
     accepted_run budget = simp (a.widths, a.addresses, a.short, a.named, a.room)
 
-    party_made_lem : party_made s file damage store ≡ T.Ok (beginning s file damage store)
+    party_made_lem : party_made s file damage store ≡ Ok (beginning s file damage store)
     unfolding party_made with_provider when
     party_made_lem = simp (provider_is_made s file damage store a, a.named, a.room, receiver_is_made s file damage store a)
 
   -- all tests before any frame are passed, or the first that is not refuses making and run alike
   data Tested : Type 0 where
     accepts : Accepted s file damage store → Tested
-    refuses : (e : FtError) → party_made s file damage store ≡ T.Err e → ((budget : ℕ) → two_party s file damage store budget ≡ refused store e) → Tested
+    refuses : (e : FtError) → party_made s file damage store ≡ Err e → ((budget : ℕ) → two_party s file damage store budget ≡ refused store e) → Tested
 
   tested : Tested
   unfolding party_made with_provider provider_made two_party when
@@ -72,7 +72,7 @@ module _ (s : Settings) (file damage store : List ℕ) where
       by_tests true e₁ true e₂ true e₃ true e₄ true e₅ = accepts (record { widths = e₁; addresses = e₂; short = e₃; named = e₄; room = e₅ })
 
   -- what is made has passed them all, and is the record before any frame
-  pub made_accepted : (t : TwoParty) → party_made s file damage store ≡ T.Ok t → Accepted s file damage store × (beginning s file damage store ≡ t)
+  pub made_accepted : (t : TwoParty) → party_made s file damage store ≡ Ok t → Accepted s file damage store × (beginning s file damage store ≡ t)
   made_accepted t made = by_tests tested
     where
       by_tests : Tested → Accepted s file damage store × (beginning s file damage store ≡ t)
@@ -139,16 +139,16 @@ module _ (s : Settings) (file damage store : List ℕ) (a : Accepted s file dama
 -- ---- the ending of an exchange
 
 ending_whole : (e : Exchange) (n frames : ℕ) (store : List ℕ) → e.queue ≡ [] → e.receiver.kept ≡ n → length e.passed ≡ frames → e.store ≡ store
-    → ending e ≡ record { result = Whole n frames; store = store }
+    → ending e ≡ record { result = (Ok (Whole n frames)); store = store }
 ending_whole e n frames store none kept passed held = rw (none, kept, passed, held)
 
-ending_spent : (e : Exchange) (frames : ℕ) (q : List Passing) → e.queue ≡ q → q ≢ [] → length e.passed ≡ frames → (ending e).result ≡ Spent frames
+ending_spent : (e : Exchange) (frames : ℕ) (q : List Passing) → e.queue ≡ q → q ≢ [] → length e.passed ≡ frames → (ending e).result ≡ Ok (Spent frames)
 ending_spent e frames [] is some passed = absurd (some refl)
 ending_spent e frames (x ∷ q) is some passed = rw (is, passed)
 
 module _ (s : Settings) (file damage store : List ℕ) (a : Accepted s file damage store) (budget : ℕ) where
   pub run_whole : script_frames s file damage ≤ budget
-      → two_party s file damage store budget ≡ record { result = Whole (length file) (script_frames s file damage); store = file ++ drop (length file) store }
+      → two_party s file damage store budget ≡ record { result = (Ok (Whole (length file) (script_frames s file damage))); store = file ++ drop (length file) store }
   unfolding script_frames transfer
   run_whole h =
       let m : Transfer = transfer s file damage store a in
@@ -156,7 +156,7 @@ module _ (s : Settings) (file damage store : List ℕ) (a : Accepted s file dama
       ∙ ending_whole (exchange_of s file damage store budget) (length file) (script_frames s file damage) (file ++ drop (length file) store)
       (B.whole m budget h).over (ap (λ (r : Receiver). r.kept) (B.whole m budget h).receiver_ended) (B.whole_frames m budget h) (B.whole m budget h).stored
 
-  pub run_spent : budget < script_frames s file damage → (two_party s file damage store budget).result ≡ Spent budget
+  pub run_spent : budget < script_frames s file damage → (two_party s file damage store budget).result ≡ Ok (Spent budget)
   unfolding script_frames transfer
   run_spent h =
       let m : Transfer = transfer s file damage store a in

@@ -7,9 +7,9 @@ use native.Mathlib.Omega.{arith}
 use native.Mathlib.Decide.{dec_lt}
 use lib.ListN.{length}
 use borrow.Author.Tests.{lt-ltb}
+use Rattle.std.specs.Prelude.{Err, None, Ok, Result, Some}
 use Rattle.laws.specs.When.{when}
 use Rattle.asdu.specs.declared.Nos.{Nos}
-use Rattle.asdu.specs.declared.UnknownField.TheVariants as U
 use Rattle.frame.specs.declared.Frame.{Frame}
 use Rattle.ft.specs.Building.{header_of}
 use Rattle.ft.specs.declared.Received.TheVariants as D
@@ -22,8 +22,6 @@ use Rattle.provide.specs.Requests.{provide}
 use Rattle.provide.specs.declared.ProviderStep.{ProviderStep}
 use Rattle.requests.specs.declared.ProviderAnswer.{ProviderAnswer}
 use Rattle.requests.specs.declared.ProviderAnswer.TheVariants as PA
-use Rattle.provide.specs.declared.FrameResult.{FrameResult}
-use Rattle.provide.specs.declared.FrameResult.TheVariants as F
 use Rattle.requests.specs.declared.Reply.{Reply}
 use Rattle.requests.specs.declared.Reply.TheVariants.{Nothing, FileReady, SectionReady, Section, FileClose}
 use Rattle.provide.proofs.Indexed.{count_is, replies_agree}
@@ -32,7 +30,6 @@ use Rattle.receive.specs.Answers.{Outcome, receive, sends, to_send}
 use Rattle.receive.specs.declared.Receiver.{Receiver}
 use Rattle.receive.specs.declared.ReceiverAnswer.{ReceiverAnswer}
 use Rattle.receive.specs.declared.ReceiverStep.{ReceiverStep}
-use Rattle.receive.specs.declared.ToSend.TheVariants as T
 use Rattle.exchange.specs.Exchange.{by_receiver, Passing, untouched, provider_sends, packets_of, receiver_sends, is_sending, Noise, on_the_way, sendings_left, Exchange, provided, taken, step_on, step, begun, own_headers}
 use Rattle.exchange.proofs.Begins.{payloads_behind}
 use Rattle.delivery.specs.Handed.{header_by, arriving}
@@ -47,6 +44,7 @@ use Rattle.run.proofs.Machines.{station_same, agreement_same, Stays, receive_sta
 use Rattle.radio.proofs.Told.{told, bare_told, flown_none, told_past}
 use Rattle.twoparty.proofs.Passing.{passing_at}
 use Rattle.radio.proofs.Tuning.{Unnamed, Tuned, tuned_next, tuned_sent}
+use Rattle.asdu.specs.declared.FtError.{FtError}
 
 -- ---- the queue
 
@@ -80,7 +78,7 @@ module _ (p : Provider) (file : List ℕ) where
     last : rest ≡ [] → Apart rest b
 
   chosen : (r r' : Receiver) (rest : Queue) (b : Bool) → queue_of p file r rest ≡ queue_of p file r' rest → Apart (queue_of p file r rest) b
-      → queue_of p file r rest ++ map (untouched by_receiver) (packets_of (when b (T.Frame (awaited r')) T.Nothing)) ≡ queue_of p file r' (when b Q.Receiver rest)
+      → queue_of p file r rest ++ map (untouched by_receiver) (packets_of (when b (Some (awaited r')) None)) ≡ queue_of p file r' (when b Q.Receiver rest)
   unfolding when
   chosen r r' rest false same h = append-nil (queue_of p file r rest) ∙ same
   chosen r r' rest true same (silent e) = absurd (true≢false e)
@@ -97,9 +95,9 @@ module _ (p : Provider) (file : List ℕ) where
     at_end : length (replies p file reply) ≤ suc i → Place reply i
     within : (nos : Nos) (o : List ℕ) → (packet_at p file reply i).frame ≡ segment_frame p nos o → Place reply i
 
-  abbrev frame_in : FrameResult → Frame
-  frame_in (F.Ok f) = f
-  frame_in (F.Err e) = file_ready p
+  abbrev frame_in : Result Frame FtError → Frame
+  frame_in (Ok f) = f
+  frame_in (Err e) = file_ready p
 
   place : file_agrees p file ≡ true → (reply : Reply) (i : ℕ) → i < length (replies p file reply) → Place reply i
   unfolding reply_frame section_frame when
@@ -187,8 +185,8 @@ module _ (file damage : List ℕ) (ca count : ℕ) where
     unfolding advanced
     asks_on fits =
         let f : Frame = awaited r in
-        let s : ProviderStep = provide p file (header_by r.procedure f) U.Nothing (D.Frame f) [] in
-        let same : s.provider.procedure ≡ p.procedure = station_same p file (header_by r.procedure f) U.Nothing (D.Frame f) [] in
+        let s : ProviderStep = provide p file (header_by r.procedure f) None (D.Frame f) [] in
+        let same : s.provider.procedure ≡ p.procedure = station_same p file (header_by r.procedure f) None (D.Frame f) [] in
         record {
           radio' = sendings_left (is_sending s.answer) radio;
           u' = s.answer;
@@ -197,7 +195,7 @@ module _ (file damage : List ℕ) (ca count : ℕ) where
           tuned = still_tuned (is_sending s.answer);
           fits =
               record {
-                agrees = agreement_same p file (header_by r.procedure f) U.Nothing (D.Frame f) [] ∙ fits.agrees;
+                agrees = agreement_same p file (header_by r.procedure f) None (D.Frame f) [] ∙ fits.agrees;
                 holds = fits.holds;
                 provider_ca = ap (λ (z : FileTransferProcedure). z.ca) same ∙ fits.provider_ca;
                 provider_org = ap (λ (z : FileTransferProcedure). z.org) same ∙ fits.provider_org;
@@ -236,7 +234,7 @@ module _ (file damage : List ℕ) (ca count : ℕ) where
       x = packet_at p file reply i
 
       abbrev outcome : Outcome
-      outcome = receive r store (header_of ca 0 x.frame) U.Nothing (D.Frame x.frame) (arriving d i x.payload)
+      outcome = receive r store (header_of ca 0 x.frame) None (D.Frame x.frame) (arriving d i x.payload)
 
       apart : Place p file reply i → Apart p file (queue_of p file r rest) (sends outcome.step.answer)
       apart (at_end h) = last (told_past d (i + 1) (replies p file reply) (omega arith))
@@ -251,7 +249,7 @@ module _ (file damage : List ℕ) (ca count : ℕ) where
         moves = rw (frame_is p file fits.agrees reply i h, payload_is, fits.provider_ca, fits.provider_org)
 
         heard : Stays r outcome
-        heard = receive_stays r store fits.holds (header_of ca 0 x.frame) U.Nothing (D.Frame x.frame) (arriving d i x.payload)
+        heard = receive_stays r store fits.holds (header_of ca 0 x.frame) None (D.Frame x.frame) (arriving d i x.payload)
 
         tells : Next replying store radio ps u v (passing_at d i x)
         tells =

@@ -4,6 +4,7 @@ use mathlib.Core.Path.{◌≡◌, refl}
 use mathlib.Core.Bool.{Bool, true, false}
 use mathlib.Core.List.{List}
 use native.Mathlib.Omega.{arith}
+use Rattle.std.specs.Prelude.{Ok, Err}
 use Rattle.laws.proofs.Decide.{whens}
 use Rattle.laws.proofs.Choices.{either}
 use Rattle.frame.specs.declared.Frame.{Frame}
@@ -11,13 +12,11 @@ use Rattle.provide.specs.Record.{file_agrees}
 use Rattle.provide.specs.Replies.{reply_frame}
 use Rattle.provide.specs.declared.Provider.{Provider}
 use Rattle.requests.specs.declared.Reply.{Reply}
-use Rattle.provide.specs.declared.FrameResult.TheVariants as F
 use Rattle.receive.specs.declared.Receiver.{Receiver}
 use Rattle.radio.specs.declared.Radio.{Radio}
 use Rattle.twoparty.specs.declared.TwoParty.{TwoParty}
 use Rattle.twoparty.specs.declared.Queue.{Queue}
 use Rattle.twoparty.specs.declared.Queue.TheVariants as Q
-use Rattle.twoparty.specs.declared.NextFrame.TheVariants as N
 use Rattle.twoparty.specs.Party.{first, next_frame, still, to_provider, after_receiver, advanced}
 use Rattle.delivery.specs.Handed.{receiver_handed}
 use Rattle.run.specs.Loop.{is_nothing, is_over, whole, used_up, ran_on}
@@ -44,7 +43,7 @@ module _ (t : TwoParty) (file : List ℕ) where
   -- a transfer whose queue has no frame is over
   pub over_none : is_nothing (first t.provider t.receiver file t.queue) ≡ true → is_over t file ≡ true
   unfolding is_over next_frame
-  over_none h = either (λ x. is_nothing x ≡ true) (file_agrees t.provider file) _ (N.Err _) h refl
+  over_none h = either (λ x. is_nothing x ≡ true) (file_agrees t.provider file) _ (Err _) h refl
 
   -- and one whose Provider and file disagree
   pub over_apart : file_agrees t.provider file ≡ false → is_over t file ≡ true
@@ -63,7 +62,7 @@ module _ (t : TwoParty) (file damage store : List ℕ) where
   moved_receiver e = rw e refl
 
   pub moved_provider : (reply : Reply) (i : ℕ) (damaged : Bool) (f : Frame)
-      → t.queue ≡ Q.Provider reply i damaged → reply_frame t.provider file reply i ≡ F.Ok f
+      → t.queue ≡ Q.Provider reply i damaged → reply_frame t.provider file reply i ≡ Ok f
       → advanced t file damage store
       ≡ after_receiver t (Q.Provider reply (i + 1) damaged) (receiver_handed t.provider t.receiver file store reply i damaged f)
   unfolding advanced

@@ -9,6 +9,7 @@ use lib.Dec.{leb}
 use lib.ListN.{length, take, drop, length-append, length-drop, take-append-drop}
 use lib.Seq.{length-take-le}
 use borrow.Author.Tests.{leb-true, le-leb}
+use Rattle.std.specs.Prelude.{None, Option, Result, Ok, Err}
 use Rattle.laws.specs.When.{when}
 use Rattle.laws.proofs.Choices.{if_so, either}
 use Rattle.asdu.specs.declared.Nof.{Nof}
@@ -22,8 +23,6 @@ use Rattle.asdu.specs.declared.Chs.{Chs}
 use Rattle.asdu.specs.declared.Scq.{Scq}
 use Rattle.asdu.specs.declared.Afq.{Afq}
 use Rattle.asdu.specs.declared.Header.{Header}
-use Rattle.asdu.specs.declared.UnknownField.{UnknownField}
-use Rattle.asdu.specs.declared.UnknownField.TheVariants as U
 use Rattle.asdu.specs.declared.Unspecified.{Unspecified}
 use Rattle.frame.specs.declared.Frame.{Frame}
 use Rattle.frame.specs.declared.Frame.TheVariants as F
@@ -52,6 +51,7 @@ use Rattle.receive.specs.Answers.{Outcome, leaving, on_file_ready, on_section_re
 use Rattle.receive.specs.declared.Receiver.{Receiver}
 use Rattle.receive.specs.declared.ReceiverAnswer.{ReceiverAnswer}
 use Rattle.receive.specs.declared.ReceiverStep.{ReceiverStep}
+use Rattle.asdu.specs.declared.FtError.{FtError}
 
 -- ---- the Provider: what ending and counting leave as it is, every frame does
 
@@ -93,15 +93,15 @@ module _ {B : Type 0} (g : Provider → B) (p : Provider) (over : g (ended p) �
   requested_same (D.Frame f) = either Same _ _ _ (ours_same f) (kept _ more)
   requested_same D.Undecodable = kept _ refl
 
-  admitted_same : (received : Received) (x : Reaction) → Same (provide_admitted p received x)
-  admitted_same received A.Requested = requested_same received
-  admitted_same received A.Answered = kept _ refl
-  admitted_same received (A.Refused cause mirror) = kept _ over
-  admitted_same received (A.Discard why) = kept _ refl
-  admitted_same received A.Other = kept _ refl
-  admitted_same received (A.Err e) = kept _ refl
+  admitted_same : (received : Received) (x : Result Reaction FtError) → Same (provide_admitted p received x)
+  admitted_same received (Ok A.Requested) = requested_same received
+  admitted_same received (Ok A.Answered) = kept _ refl
+  admitted_same received (Ok (A.Refused cause mirror)) = kept _ over
+  admitted_same received (Ok (A.Discard why)) = kept _ refl
+  admitted_same received (Ok A.Other) = kept _ refl
+  admitted_same received (Err e) = kept _ refl
 
-  pub provide_same : (file : List ℕ) (h : Header) (unknown : UnknownField) (received : Received) (beside : List ℕ)
+  pub provide_same : (file : List ℕ) (h : Header) (unknown : Option Unspecified) (received : Received) (beside : List ℕ)
       → g (provide p file h unknown received beside).provider ≡ g p
   unfolding provide
   provide_same file h unknown received beside =
@@ -110,11 +110,11 @@ module _ {B : Type 0} (g : Provider → B) (p : Provider) (over : g (ended p) �
       s.same
 
 -- the station, and the agreement with the file
-pub station_same : (p : Provider) (file : List ℕ) (h : Header) (unknown : UnknownField) (received : Received) (beside : List ℕ)
+pub station_same : (p : Provider) (file : List ℕ) (h : Header) (unknown : Option Unspecified) (received : Received) (beside : List ℕ)
     → (provide p file h unknown received beside).provider.procedure ≡ p.procedure
 station_same p = provide_same (λ (q : Provider). q.procedure) p refl refl
 
-pub agreement_same : (p : Provider) (file : List ℕ) (h : Header) (unknown : UnknownField) (received : Received) (beside : List ℕ)
+pub agreement_same : (p : Provider) (file : List ℕ) (h : Header) (unknown : Option Unspecified) (received : Received) (beside : List ℕ)
     → file_agrees (provide p file h unknown received beside).provider file ≡ file_agrees p file
 unfolding file_agrees
 agreement_same p file = provide_same (λ (q : Provider). file_agrees q file) p refl refl file
@@ -197,15 +197,15 @@ module _ (r : Receiver) (store : List ℕ) (agreed : store_agrees r store ≡ tr
   received_stays payload (D.Frame f) = answered_stays payload f
   received_stays payload D.Undecodable = same _
 
-  reaction_stays : (payload : List ℕ) (received : Received) (x : Reaction) → Stays r (receive_admitted r store payload received x)
-  reaction_stays payload received A.Requested = same _
-  reaction_stays payload received A.Answered = received_stays payload received
-  reaction_stays payload received (A.Refused cause mirror) = no_more _ refl refl (omega arith)
-  reaction_stays payload received (A.Discard why) = same _
-  reaction_stays payload received A.Other = same _
-  reaction_stays payload received (A.Err e) = same _
+  reaction_stays : (payload : List ℕ) (received : Received) (x : Result Reaction FtError) → Stays r (receive_admitted r store payload received x)
+  reaction_stays payload received (Ok A.Requested) = same _
+  reaction_stays payload received (Ok A.Answered) = received_stays payload received
+  reaction_stays payload received (Ok (A.Refused cause mirror)) = no_more _ refl refl (omega arith)
+  reaction_stays payload received (Ok (A.Discard why)) = same _
+  reaction_stays payload received (Ok A.Other) = same _
+  reaction_stays payload received (Err e) = same _
 
-  pub receive_stays : (h : Header) (unknown : UnknownField) (received : Received) (beside : List ℕ) → Stays r (receive r store h unknown received beside)
+  pub receive_stays : (h : Header) (unknown : Option Unspecified) (received : Received) (beside : List ℕ) → Stays r (receive r store h unknown received beside)
   unfolding receive
   receive_stays h unknown received beside =
       either (Stays r) _ _ _ (either (Stays r) _ _ _ (same _) (reaction_stays beside received (on_answer r.procedure h unknown received beside (awaited r)))) (same _)
@@ -228,10 +228,10 @@ module _ (r : Receiver) (store beside : List ℕ) (ioa : ℕ) (nof : Nof) (nos :
   says_nothing o e = record { silent = e }
 
   -- a reaction after which the Receiver sends nothing
-  record Quiet (x : Reaction) : Type 0 where
+  record Quiet (x : Result Reaction FtError) : Type 0 where
     quiet : Silent (receive_admitted r store beside segment x)
 
-  leaves : (x : Reaction) → sends (receive_admitted r store beside segment x).step.answer ≡ false → Quiet x
+  leaves : (x : Result Reaction FtError) → sends (receive_admitted r store beside segment x).step.answer ≡ false → Quiet x
   leaves x e = record { quiet = says_nothing _ e }
 
   unspecified_quiet : (role : Role) (which : Unspecified) → Quiet (unspecified role which)
@@ -243,18 +243,18 @@ module _ (r : Receiver) (store beside : List ℕ) (ioa : ℕ) (nof : Nof) (nos :
   unserved_quiet Controlled s = leaves _ refl
   unserved_quiet Controlling s = either Quiet _ _ _ (leaves _ refl) (leaves _ refl)
 
-  segment_quiet : Quiet A.Answered
+  segment_quiet : Quiet (Ok A.Answered)
   unfolding on_segment
   segment_quiet = record { quiet = either Silent _ _ _ (says_nothing _ refl) (says_nothing _ refl) }
 
-  answering_quiet : (sent : Frame) (x : Reaction) → Quiet x → Quiet (answering sent segment x)
+  answering_quiet : (sent : Frame) (x : Result Reaction FtError) → Quiet x → Quiet (answering sent segment x)
   unfolding matched
-  answering_quiet sent A.Answered q = either Quiet _ _ _ segment_quiet (leaves _ refl)
-  answering_quiet sent A.Requested q = q
-  answering_quiet sent (A.Refused cause mirror) q = q
-  answering_quiet sent (A.Discard why) q = q
-  answering_quiet sent A.Other q = q
-  answering_quiet sent (A.Err e) q = q
+  answering_quiet sent (Ok A.Answered) q = either Quiet _ _ _ segment_quiet (leaves _ refl)
+  answering_quiet sent (Ok A.Requested) q = q
+  answering_quiet sent (Ok (A.Refused cause mirror)) q = q
+  answering_quiet sent (Ok (A.Discard why)) q = q
+  answering_quiet sent (Ok A.Other) q = q
+  answering_quiet sent (Err e) q = q
 
   module _ (h : Header) where
     frame_quiet : (p : FileTransferProcedure) → Quiet (admit_frame p h (F.Segment ioa nof nos los) beside)
@@ -262,21 +262,21 @@ module _ (r : Receiver) (store beside : List ℕ) (ioa : ℕ) (nof : Nof) (nos :
     frame_quiet p =
         either Quiet _ _ _ (either Quiet _ _ _ (either Quiet _ _ _ (leaves _ refl) segment_quiet) (unserved_quiet p.role p.selection)) (leaves _ refl)
 
-    known_quiet : (p : FileTransferProcedure) → Quiet (admit_known p h U.Nothing segment beside)
+    known_quiet : (p : FileTransferProcedure) → Quiet (admit_known p h None segment beside)
     unfolding admit_known
     known_quiet p =
         let no_field : (which : Unspecified) → Quiet (unspecified p.role which) = unspecified_quiet p.role in
         either Quiet _ _ _ (no_field _) (either Quiet _ _ _ (no_field _) (either Quiet _ _ _ (no_field _) (either Quiet _ _ _ (no_field _) (frame_quiet p))))
 
-    admission_quiet : (p : FileTransferProcedure) → Quiet (on_asdu p h U.Nothing segment beside)
+    admission_quiet : (p : FileTransferProcedure) → Quiet (on_asdu p h None segment beside)
     unfolding on_asdu mirrored
     admission_quiet p =
         either Quiet _ _ _ (either Quiet _ _ _ (either Quiet _ _ _ (either Quiet _ _ _ (either Quiet _ _ _ (leaves _ refl) (leaves _ refl))
         (known_quiet p)) (leaves _ refl)) (leaves _ refl)) (leaves _ refl)
 
-    pub segment_silent : sends (receive r store h U.Nothing segment beside).step.answer ≡ false
+    pub segment_silent : sends (receive r store h None segment beside).step.answer ≡ false
     unfolding receive on_answer
     segment_silent =
-        let o : Silent (receive r store h U.Nothing segment beside) =
+        let o : Silent (receive r store h None segment beside) =
         either Silent _ _ _ (either Silent _ _ _ (says_nothing _ refl) (answering_quiet (awaited r) _ (admission_quiet r.procedure)).quiet) (says_nothing _ refl) in
         o.silent

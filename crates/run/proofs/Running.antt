@@ -7,18 +7,16 @@ use native.Mathlib.Omega.{arith}
 use lib.Dec.{leb}
 use lib.ListN.{length, length-append}
 use borrow.Author.Tests.{le-leb}
+use Rattle.std.specs.Prelude.{Err, Ok, Result}
 use Rattle.laws.specs.When.{when}
 use Rattle.asdu.specs.Sizes.{sizes_right}
 use Rattle.asdu.specs.declared.FtError.TheVariants as E
 use Rattle.ft.specs.Directions.{other_role}
 use Rattle.ft.specs.Procedure.{addressed}
 use Rattle.ft.specs.Building.{built}
-use Rattle.ft.specs.declared.AsduResult.{AsduResult}
-use Rattle.ft.specs.declared.AsduResult.TheVariants as A
 use Rattle.sections.specs.Sections.{section_length, section_count}
 use Rattle.provide.specs.Record.{fresh_provider, provider_made}
 use Rattle.requests.specs.declared.ProviderAnswer.{ProviderAnswer}
-use Rattle.provide.specs.declared.ProviderResult.TheVariants as PM
 use Rattle.provide.specs.declared.Provider.{Provider}
 use Rattle.provide.proofs.Making.{made, made_agrees}
 use Rattle.sections.proofs.SectionLaws.{some_section, few_sections}
@@ -27,7 +25,6 @@ use Rattle.receive.proofs.Making as R
 use Rattle.receive.specs.declared.Receiver.{Receiver}
 use Rattle.receive.specs.declared.ReceiverAnswer.{ReceiverAnswer}
 use Rattle.receive.specs.declared.ReceiverAnswer.TheVariants as Ra
-use Rattle.receive.specs.declared.ReceiverResult.TheVariants as RM
 use Rattle.exchange.specs.Exchange.{Passing, Noise, Exchange, run, own_headers}
 use Rattle.exchange.specs.Transfer.{in_order}
 use Rattle.exchange.specs.Damaging.{script_radio}
@@ -43,6 +40,8 @@ use Rattle.twoparty.specs.declared.TwoParty.{TwoParty}
 use Rattle.radio.proofs.Tuning.{Unnamed, Tuned, tuned_first}
 use Rattle.run.proofs.Following.{stands_for, Fits, Sight, over, going, sight, start_stands}
 use Rattle.radio.proofs.Named.{unnamed}
+use Rattle.asdu.specs.declared.FtError.{FtError}
+use Rattle.ft.specs.declared.Asdu.{Asdu}
 
 module _ (file damage : List ℕ) (ca count : ℕ) (few : count ≤ 255) (none : Unnamed damage count) where
   -- with this budget the record ends as its exchange
@@ -82,9 +81,9 @@ module _ (file damage : List ℕ) (ca count : ℕ) (few : count ≤ 255) (none :
 
 -- a start leaves all of the record as it is but what was sent
 module _ {B : Type 0} (g : Receiver → B) (r : Receiver) (same : g (awaiting r opening) ≡ g r) where
-  started_with_same : (a : AsduResult) → g (started_with r a).receiver ≡ g r
-  started_with_same (A.Ok a) = same
-  started_with_same (A.Err e) = refl
+  started_with_same : (a : Result Asdu FtError) → g (started_with r a).receiver ≡ g r
+  started_with_same (Ok a) = same
+  started_with_same (Err e) = refl
 
   start_same : (store : List ℕ) → g (started r store).receiver ≡ g r
   unfolding started when
@@ -118,11 +117,11 @@ module _ (s : Settings) (file damage store : List ℕ) where
   beginning = started_party providing damage (started receiving store)
 
   module _ (a : Accepted) where
-    pub provider_is_made : provider_made (station_of s s.role) s.ioa s.nof (length file) ≡ PM.Ok providing
+    pub provider_is_made : provider_made (station_of s s.role) s.ioa s.nof (length file) ≡ Ok providing
     unfolding provider_made when
     provider_is_made = simp (a.widths, a.addresses, a.short)
 
-    pub receiver_is_made : receiver_made (station_of s (other_role s.role)) s.ioa s.nof ≡ RM.Ok receiving
+    pub receiver_is_made : receiver_made (station_of s (other_role s.role)) s.ioa s.nof ≡ Ok receiving
     unfolding receiver_made when
     receiver_is_made = simp (a.widths, a.addresses)
 

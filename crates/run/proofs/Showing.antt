@@ -3,6 +3,7 @@ use Prim.Native.Nat.{ℕ, zero, suc, ◌≤◌}
 use mathlib.Core.Path.{◌≡◌, refl, sym, ap, ◌∙◌}
 use mathlib.Core.List.{List, [], ◌∷◌, ◌++◌, map, append-nil}
 use lib.ListN.{length, length-map}
+use Rattle.std.specs.Prelude.{Ok}
 use Rattle.laws.specs.When.{when}
 use Rattle.sections.specs.Sections.{section_count}
 use Rattle.requests.specs.declared.ProviderAnswer.{ProviderAnswer}
@@ -16,7 +17,6 @@ use Rattle.twoparty.specs.Party.{party_made, advanced, went, party_stepped}
 use Rattle.twoparty.specs.Shown.{shown_as, first_of}
 use Rattle.twoparty.specs.declared.Settings.{Settings}
 use Rattle.twoparty.specs.declared.TwoParty.{TwoParty}
-use Rattle.twoparty.specs.declared.TwoPartyResult.TheVariants as T
 use Rattle.twoparty.proofs.Standing.{next_shown}
 use Rattle.run.specs.Run.{exchange_of, script_frames}
 use Rattle.run.specs.Shown.{shown}
@@ -74,14 +74,14 @@ module _ (s : Settings) (file damage store : List ℕ) where
       (λ radio. shows file damage s.common_address (section_count (length file)) (few_sections (length file)) (unnamed file damage a.named) frames (beginning s file damage store) store radio [])
 
   -- a transfer that was made shows sender and frame of each frame that passes in as many steps of the exchange, in order, and nothing else: no step is refused
-  pub frames_shown : (t : TwoParty) → party_made s file damage store ≡ T.Ok t → (frames : ℕ)
+  pub frames_shown : (t : TwoParty) → party_made s file damage store ≡ Ok t → (frames : ℕ)
       → shown file damage frames t store ≡ map shown_as (exchange_of s file damage store frames).passed
   frames_shown t made frames =
       let m = made_accepted s file damage store t made in
       rw (sym m.1) (accepted_shown m.0 frames)
 
   -- with as many steps as the script takes frames, or more, it shows exactly so many: then nothing
-  pub all_shown : (t : TwoParty) → party_made s file damage store ≡ T.Ok t → (frames : ℕ) → script_frames s file damage ≤ frames
+  pub all_shown : (t : TwoParty) → party_made s file damage store ≡ Ok t → (frames : ℕ) → script_frames s file damage ≤ frames
       → length (shown file damage frames t store) ≡ script_frames s file damage
   unfolding script_frames transfer
   all_shown t made frames h =

@@ -1,5 +1,5 @@
 -- The two-party run (document 01, A transfer script): by its definition it is the exchange with no segment lost, both senders' counts added.
-use Rattle.std.specs.Prelude.{ℕ, ◌+◌, List, [], ◌∷◌, leb, length}
+use Rattle.std.specs.Prelude.{ℕ, ◌+◌, List, [], ◌∷◌, leb, length, Result, Ok, Err}
 use Rattle.laws.specs.When.{unless}
 use Rattle.asdu.specs.Sizes.{sizes_right, segment_limit}
 use Rattle.asdu.specs.declared.FtError.{FtError}
@@ -16,8 +16,8 @@ use Rattle.twoparty.specs.Party.{station_of}
 use Rattle.run.specs.Loop.{Ran}
 use Rattle.radio.specs.Radio.{all_have_octets}
 use Rattle.twoparty.specs.declared.Settings.{Settings}
-use Rattle.run.specs.declared.RunResult.{RunResult}
-use Rattle.run.specs.declared.RunResult.TheVariants.{Whole, Spent, Err}
+use Rattle.run.specs.declared.Ending.{Ending}
+use Rattle.run.specs.declared.Ending.TheVariants.{Whole, Spent}
 
 -- the exchange of these settings, after so many frames
 abbrev pub exchange_of : Settings → List ℕ → List ℕ → List ℕ → ℕ → Exchange
@@ -27,9 +27,9 @@ exchange_of s file damage store frames =
     (in_order (script_radio damage 1 (section_count (length file)))))
 
 -- whole where no frame is left, with the octets accepted; else the budget is spent. The frames are those passed
-abbrev pub ending_by : Exchange → List Passing → RunResult
-ending_by e [] = Whole e.receiver.kept (length e.passed)
-ending_by e (x ∷ queue) = Spent (length e.passed)
+abbrev pub ending_by : Exchange → List Passing → Result Ending FtError
+ending_by e [] = Ok (Whole e.receiver.kept (length e.passed))
+ending_by e (x ∷ queue) = Ok (Spent (length e.passed))
 
 abbrev pub ending : Exchange → Ran
 ending e = record { result = ending_by e e.queue; store = e.store }

@@ -9,6 +9,8 @@ use lib.Dec.{leb}
 use lib.ListN.{length, length-append}
 use borrow.Author.Tests.{leb-true, leb-false, le-leb, lt-leb}
 use Rattle.laws.proofs.Decide.{whens}
+use Rattle.std.specs.Fmt.{decimal as printed}
+use Rattle.std.proofs.lemmas.Fmt.{decimal_digit, decimal_step}
 use Rattle.script.specs.Decimal.{digits_within, decimal}
 
 -- by both results of a test
@@ -55,3 +57,18 @@ digits_most (suc k) n h =
     let p : n < 10 * 10 ^ suc k = rw (pow-succ' 10 (suc k)) at h in
     let i = digits_most k (n / 10) (omega arith) in
     rw (decimal_more n m, length-append) (omega arith))
+
+-- the library writes the same digits
+pub printed_decimal : (n : ℕ) → n < 2 ^ 64 → printed n ≡ decimal n
+printed_decimal n h = go (suc n) n (omega arith) h
+  where
+    go : (k n : ℕ) → n < k → n < 2 ^ 64 → printed n ≡ decimal n
+    go zero n b h = absurd (omega arith)
+    go (suc k) n b h =
+        either (leb n 9)
+        (λ e.
+        let small : n ≤ 9 = leb-true _ _ e in
+        decimal_digit n (omega arith) ∙ rw (decimal_one n small))
+        (λ e.
+        let large : 9 < n = leb-false _ _ e in
+        decimal_step n (omega arith) h ∙ rw (decimal_more n large, go k (n / 10) (omega arith) (omega arith)))

@@ -2,6 +2,5 @@ pub mod ReaderLaws
 pub mod Decimals
 pub mod NumberLaws
 pub mod ListLaws
-pub mod Stages
 pub mod Meaning
 pub mod Worked

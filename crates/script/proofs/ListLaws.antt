@@ -1,11 +1,11 @@
 -- Reading octets one by one: what was read stands in front of what is still to be read.
 use Prim.Native.Nat.{ℕ, suc, ◌+◌, ◌-◌, ◌<◌}
-use mathlib.Core.Path.{◌≡◌, refl, sym, ap, ◌∙◌}
+use mathlib.Core.Path.{◌≡◌, refl, sym}
 use mathlib.Core.List.{List, [], ◌∷◌, ◌++◌, append_assoc, append-nil}
 use native.Mathlib.Numerals.{add-one}
 use native.Mathlib.Omega.{arith}
-use lib.ListN.{length, take, drop, set}
-use lib.Seq.{take-suc-set, drop-set-lt, drop-drop}
+use lib.ListN.{length, take, set}
+use lib.Seq.{take-suc-set, take_all}
 use Rattle.script.specs.Reader.{Found, nothing, found, then_read, spaced_number, numbers}
 
 -- octets that were read, in front of those that are found next
@@ -31,19 +31,18 @@ module _ (n i : ℕ) (h : i < n) where
   numbers_on out t rest x g e =
       rw (one_less, ← e, add-one, take-suc-set out i x g) (sym (behind_one (take i out) x (numbers (n - suc i) rest)))
 
-  pub numbers_off : (xs t : List ℕ) → nothing ≡ spaced_number 255 t → nothing ≡ behind xs (numbers (n - i) t)
+  pub numbers_off : (xs t : List ℕ) → nothing ≡ spaced_number 255 t → behind xs (numbers (n - i) t) ≡ nothing
   unfolding numbers
   numbers_off xs t e = rw (one_less, ← e)
 
 -- none of them, and all of them
-module _ (n : ℕ) (t : List ℕ) where
-  pub numbers_begin : behind [] (numbers (n - 0) t) ≡ numbers n t
+module _ (n : ℕ) (t out : List ℕ) where
+  pub numbers_begin : behind (take 0 out) (numbers (n - 0) t) ≡ numbers n t
   numbers_begin = let z : n - 0 ≡ n = omega arith in rw z (behind_none (numbers n t))
 
-  pub numbers_end : (i : ℕ) (out : List ℕ) → n ≡ i → found (take n out) t ≡ behind (take i out) (numbers (n - i) t)
+  pub numbers_end : (i : ℕ) → n ≡ i → length out ≡ n → behind (take i out) (numbers (n - i) t) ≡ found out t
   unfolding numbers
-  numbers_end i out e = let z : n - i ≡ 0 = omega arith in rw (z, append-nil, e)
+  numbers_end i e l = let z : n - i ≡ 0 = omega arith in rw (z, append-nil, take_all i out (omega arith))
 
--- the rest of the buffer, one octet further on
-pub kept_on : (was is : List ℕ) (i x : ℕ) → drop i is ≡ drop i was → drop (i + 1) (set is i x) ≡ drop (i + 1) was
-kept_on was is i x e = drop-set-lt (i + 1) is i x (omega arith) ∙ sym (drop-drop 1 i is) ∙ ap (drop 1) e ∙ drop-drop 1 i was
+-- for the reader's own proof
+pub ruleset in_turn = (numbers_begin, numbers_on, numbers_off, numbers_end)

@@ -1,8 +1,8 @@
 -- Exactly the texts of right scripts are scripts, and each means its script.
+use Rattle.std.specs.Prelude.{Some, None}
 use Prim.Native.Nat.{ℕ, zero, suc, ◌≤◌}
 use mathlib.Core.Bool.{true, false}
-use mathlib.Core.Path.{◌≡◌, refl, sym, ap}
-use mathlib.Core.Option.{none, some}
+use mathlib.Core.Path.{◌≡◌, refl, ap}
 use mathlib.Core.List.{List, [], ◌∷◌, ◌++◌, append_assoc, append-nil}
 use native.Mathlib.Omega.{arith}
 use lib.Dec.{eqb}
@@ -16,7 +16,6 @@ use Rattle.script.specs.Script.{Script, Octets, Right, text_of}
 use Rattle.script.specs.Reader.{Found, nothing, found, then_read, begins, begins_digit, spaced_number, numbers, counted_octets, ScriptSettings, settings, ends, script_body, whole_text, script_of}
 use Rattle.script.proofs.Decimals.{either, decimal_one}
 use Rattle.script.proofs.NumberLaws.{after_text, after_found, holds}
-use Rattle.script.proofs.Stages.{whole}
 
 -- ---- a right script is read
 
@@ -53,14 +52,14 @@ pub ends_newline : ends (10 ∷ []) ≡ true
 unfolding ends begins when
 ends_newline = refl
 
-pub right_read : (s : Script) → Right s → script_of (text_of s) ≡ some s
-unfolding text_of
+pub right_read : (s : Script) → Right s → script_of (text_of s) ≡ Some s
+unfolding text_of script_of script_body
 right_read s r =
     let ns = length s.damage ∷ s.damage in
     let e₁ = settings_spaced (10 ∷ []) no_digit s.object s.nof (length s.file ∷ (s.file ++ ns)) r.object r.nof in
     let e₂ = counted_spaced (10 ∷ []) no_digit 8192 s.file ns r.file_length r.file in
     let e₃ = simp append-nil at (counted_spaced (10 ∷ []) no_digit 255 s.damage [] r.damage_length r.damage) in
-    whole _ (sym e₁) (sym e₂) (sym e₃) ends_newline
+    rw (e₁, e₂, e₃) (simp (whens, ends_newline))
 
 -- ---- what is read is a right script
 
@@ -172,13 +171,13 @@ sections_found t s rest h =
     (script_text t k.left f.left d.left k.first f.first d.first (settings_found t k.first k.left k.was) (counted_found 8192 k.left f.first f.left f.was) (counted_found 255 f.left d.first d.left d.was))
 
 -- what a whole text is was found in front of its end
-pub whole_found : {A : Type 0} (m : Found A) (a : A) → whole_text m ≡ some a → m ≡ found a (10 ∷ [])
+pub whole_found : {A : Type 0} (m : Found A) (a : A) → whole_text m ≡ Some a → m ≡ found a (10 ∷ [])
 whole_found nothing a e = let z : ◌≡◌ {A = ℕ} 0 1 = cc in absurd (omega arith)
 whole_found (found x rest) a e =
     either (ends rest)
     (λ b. let p : x ≡ a = cc (simp (whens, b) at e) in rw (p, ends_found rest b))
-    (λ b. let q : none ≡ some a = simp (whens, b) at e in let z : ◌≡◌ {A = ℕ} 0 1 = cc in absurd (omega arith))
+    (λ b. let q : None ≡ Some a = simp (whens, b) at e in let z : ◌≡◌ {A = ℕ} 0 1 = cc in absurd (omega arith))
 
-pub read_right : (t : List ℕ) (s : Script) → script_of t ≡ some s → Right s × (t ≡ text_of s)
+pub read_right : (t : List ℕ) (s : Script) → script_of t ≡ Some s → Right s × (t ≡ text_of s)
 unfolding script_of
 read_right t s h = let r = sections_found t s (10 ∷ []) (whole_found (script_body t) s h) in (r.right, r.text refl)

@@ -2,4 +2,4 @@ pub mod Decimal
 pub mod Script
 pub mod Reader
 pub mod Answers
-pub mod Places
+pub mod Left

@@ -1,7 +1,6 @@
 -- What a text means as a transfer script (document 01, A transfer script): a reader over what is left of the text.
 -- Exactly the texts of right scripts are scripts: `right_read` and `read_right` (proofs/Meaning.antt).
-use Rattle.std.specs.Prelude.{ℕ, zero, suc, ◌+◌, ◌*◌, ◌-◌, Bool, false, List, [], ◌∷◌, eqb, leb, length, drop, get_or}
-use Rattle.std.proofs.Math.Option.{Option, none, some}
+use Rattle.std.specs.Prelude.{ℕ, zero, suc, ◌+◌, ◌*◌, ◌-◌, Bool, false, List, [], ◌∷◌, eqb, leb, length, drop, get_or, Option, Some, None}
 use Rattle.laws.specs.When.{when, ◌and◌}
 use Rattle.script.specs.Script.{max_object, max_nof, max_file, max_damage, Script}
 
@@ -75,8 +74,8 @@ script_body t =
 
 -- what was found, where the text ends behind it
 abbrev pub whole_text : {A : Type 0} → Found A → Option A
-whole_text nothing = none
-whole_text (found a rest) = when (ends rest) (some a) none
+whole_text nothing = None
+whole_text (found a rest) = when (ends rest) (Some a) None
 
 -- the script that a whole text is
 unfoldable pub script_of : List ℕ → Option Script

@@ -3,10 +3,12 @@
 
 pub mod read; // from the text to its numbers and octets
 
-use asdu::{FtError, Nof};
+use asdu::Nof;
 
-// What a script says, but for the octets of its file and of its damage, which stand in the buffers.
-#[derive(Clone, Copy)]
+// What a script says, but for the octets of its file and of its damage, which stand in the fronts of the buffers
+// that `read` is lent. It gives their lengths and does not borrow them, since `read` promises what the buffers
+// hold afterwards, and no clause speaks of a buffer that its result still borrows.
+#[derive(Clone, Copy, PartialEq, Eq)]
 pub struct Outline {
     pub ioa: u32,
     pub nof: Nof,
@@ -14,8 +16,11 @@ pub struct Outline {
     pub damage_len: usize,
 }
 
-#[derive(Clone, Copy)]
-pub enum ScriptResult {
-    Ok(Outline),
-    Err(FtError),
+// What a script says, its octets in buffers that were lent to read it.
+#[derive(Clone, Copy, PartialEq, Eq)]
+pub struct ReadScript<'a> {
+    pub ioa: u32,
+    pub nof: Nof,
+    pub file: &'a [u8],
+    pub damage: &'a [u8],
 }

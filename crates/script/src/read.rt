@@ -1,11 +1,10 @@
-// Reading a script: from a place in the text on, a part of it is found, with the place after it, or
-// it is not there.
-ghost use Rattle.std.specs.Prelude.{◌≡◌, true, ◌-◌, ◌≤◌, ◌<◌, length, drop, get_or};
-ghost use Rattle.script.specs.Reader.{begins, begins_digit, more, number, spaced_number, numbers, counted_octets, settings, ends, script_of};
+// Reading a script: from a text's front on each part is found and taken off, or it is not there.
+ghost use Rattle.std.specs.Prelude.{◌≡◌, false, ◌∷◌, ◌+◌, ◌≤◌, length, MatchOption, IfSome};
+ghost use Rattle.script.specs.Reader.{begins, begins_digit, number, spaced_number, numbers, counted_octets, ends, script_of};
 ghost use Rattle.script.specs.Answers.{answer_of, file_after, damage_after};
-ghost use Rattle.script.specs.Places.{found_at, Inside, octets_at, Kept, settings_at, Filled};
+ghost use Rattle.script.specs.Left.{found_in, octets_in, lent_in, script_in};
 
-use crate::{Outline, ScriptResult};
+use crate::{Outline, ReadScript};
 use asdu::{FtError, Nof};
 
 // The largest object address that three octets hold, and the largest name of a file.
@@ -20,206 +19,150 @@ pub const MAX_DAMAGE: u32 = 255;
 
 const MAX_OCTET: u32 = 255;
 
-// A number and the place after it, or that there is none.
-#[derive(Clone, Copy)]
-pub enum Reading {
-    Number { value: u32, next: usize },
-    Nothing,
+// What is left of a text that is read. Each method takes what it finds off the front; where it finds nothing,
+// the text is refused, and what is left of it is open.
+#[derive(Drop)]
+pub struct Reader<'a> {
+    pub rest: &'a [u8],
 }
 
-// The settings and the place after them.
-#[derive(Clone, Copy)]
-enum SettingsRead {
-    Are { ioa: u32, nof: Nof, next: usize },
-    Nothing,
-}
-
-// Whether this octet stands at the place.
-pub fn is_at(text: &[u8], at: usize, octet: u8) -> bool
-    ensures { result ≡ begins octet (drop at text.now) }
-{
-    if at < text.len() {
-        return text[at] == octet;
-    }
-    false
-}
-
-// Whether a digit stands at the place.
-fn is_digit_at(text: &[u8], at: usize) -> bool
-    ensures { result ≡ begins_digit (drop at text.now) }
-{
-    if at < text.len() {
-        let octet = text[at];
-        if b'0' <= octet {
-            return octet <= b'9';
+impl<'a> Reader<'a> {
+    // This octet.
+    #[tactic(auto, using(laws::proofs::Decide::decide), unfolding(crate::specs::Reader::begins))]
+    pub fn octet(&mut self, octet: u8) -> Option<()>
+        ensures { MatchOption result (begins octet self.old.rest.now ≡ false) (λ _. self.old.rest.now ≡ octet ∷ self.new.rest.now) }
+    {
+        let (first, rest) = self.rest.split_first()?;
+        if *first != octet {
+            return None;
         }
+        self.rest = rest;
+        Some(())
     }
-    false
-}
 
-// What the digit at the place counts.
-fn digit_at(text: &[u8], at: usize) -> u32
-    requires { begins_digit (drop at text.now) ≡ true }
-    ensures { (result ≡ get_or text.now at 0 - 48) × (result ≤ 9) × (at < length text.now) }
-{
-    (text[at] - b'0') as u32
-}
+    // A digit, by what it counts. Where none stands in front, what is left stays.
+    #[tactic(auto, using(laws::proofs::Decide::decide), unfolding(crate::specs::Reader::begins_digit))]
+    fn digit(&mut self) -> Option<u8>
+        ensures { MatchOption result ((begins_digit self.old.rest.now ≡ false) × (self.new.rest.now ≡ self.old.rest.now)) (λ d. (d ≤ 9) × (self.old.rest.now ≡ (48 + d) ∷ self.new.rest.now)) }
+    {
+        let (first, rest) = self.rest.split_first()?;
+        if !first.is_ascii_digit() {
+            return None;
+        }
+        self.rest = rest;
+        Some(*first - b'0')
+    }
 
-// The number whose digits before the place make first. A digit more than any limit has is within 64 bits.
-fn more_at(text: &[u8], at: usize, limit: u32, first: u32) -> Reading
-    requires { at ≤ length text.now }
-    ensures { (found_at text.now result ≡ more limit first (drop at text.now)) × Inside text.now result }
-{
-    let mut value = first as u64;
-    let mut next = at;
-    while value <= limit as u64 {
-        if !is_digit_at(text, next) {
-            return Reading::Number {
-                value: value as u32,
-                next,
+    // A number to its limit, without leading zeros. A digit more than any limit has is within 64 bits.
+    #[tactic(auto, using(crate::proofs::ReaderLaws::reading))]
+    pub fn number(&mut self, limit: u32) -> Option<u32>
+        ensures found { found_in result self.new.rest.now ≡ number limit self.old.rest.now }
+        ensures small { IfSome result (λ n. n ≤ limit) }
+    {
+        let mut value = u64::from(self.digit()?);
+        // A `for` over the octets is no plainer: what is left behind the last digit has to be kept.
+        while value <= u64::from(limit) {
+            let Some(digit) = self.digit() else {
+                return Some(value as u32);
             };
+            if value == 0 {
+                return None;
+            }
+            value = 10 * value + u64::from(digit);
         }
-        if value == 0 {
-            return Reading::Nothing;
+        None
+    }
+
+    // A number after one space.
+    #[tactic(auto, using(laws::proofs::Decide::decide), unfolding(crate::specs::Reader::spaced_number, crate::specs::Reader::begins))]
+    pub fn spaced_number(&mut self, limit: u32) -> Option<u32>
+        ensures found { found_in result self.new.rest.now ≡ spaced_number limit self.old.rest.now }
+        ensures small { IfSome result (λ n. n ≤ limit) }
+    {
+        self.octet(b' ')?;
+        self.number(limit)
+    }
+
+    // As many octets as the buffer has places, as numbers, each after one space.
+    #[tactic(auto, using(crate::proofs::ListLaws::in_turn))]
+    fn octets(&mut self, out: &mut [u8]) -> Option<()>
+        ensures { octets_in result out.new self.new.rest.now ≡ numbers (length out.old) self.old.rest.now }
+    {
+        for place in out.iter_mut() {
+            *place = self.spaced_number(MAX_OCTET)? as u8;
         }
-        value = 10 * value + digit_at(text, next) as u64;
-        next += 1;
+        Some(())
     }
-    Reading::Nothing
+
+    // So many octets after their count, in the front of the buffer.
+    #[tactic(auto, unfolding(crate::specs::Reader::counted_octets))]
+    fn counted_octets<'b>(&mut self, limit: u32, out: &'b mut [u8]) -> Option<&'b [u8]>
+        requires { limit ≤ length out.old }
+        ensures found { lent_in result self.new.rest.now ≡ counted_octets limit self.old.rest.now }
+        ensures few { IfSome result (λ octets. length octets.now ≤ limit) }
+    {
+        let count = self.spaced_number(limit)? as usize;
+        let octets = &mut out[..count];
+        self.octets(octets)?;
+        Some(octets)
+    }
+
+    // Whether what is left is one newline and nothing more.
+    #[tactic(auto, using(laws::proofs::Decide::decide), unfolding(crate::specs::Reader::ends, crate::specs::Reader::begins))]
+    pub fn is_end(&self) -> bool
+        ensures { result ≡ ends self.now.rest.now }
+    {
+        matches!(self.rest, [b'\n'])
+    }
 }
 
-// A number to its limit, and the place after it, which is within the text.
-pub fn number_at(text: &[u8], at: usize, limit: u32) -> Reading
-    ensures { (found_at text.now result ≡ number limit (drop at text.now)) × Inside text.now result }
+// The script that a text is, its octets in the fronts of the buffers; what these hold otherwise is open.
+#[tactic(auto, using(laws::proofs::Decide::whens), unfolding(crate::specs::Reader::script_of, crate::specs::Reader::script_body, crate::specs::Reader::settings, crate::specs::Reader::begins))]
+pub fn script<'b>(
+    text: &[u8],
+    file: &'b mut [u8; 8192],
+    damage: &'b mut [u8; 255],
+) -> Option<ReadScript<'b>>
+    ensures found { script_in result ≡ script_of text.now }
+    ensures few { IfSome result (λ s. (length s.file.now ≤ 8192) × (length s.damage.now ≤ 255)) }
 {
-    if is_digit_at(text, at) {
-        let first = digit_at(text, at);
-        return more_at(text, at + 1, limit, first);
+    let mut reader = Reader { rest: text };
+    reader.octet(b'2')?;
+    let ioa = reader.spaced_number(MAX_OBJECT)?;
+    let nof = reader.spaced_number(MAX_NAME)?;
+    let file = reader.counted_octets(MAX_FILE, file)?;
+    let damage = reader.counted_octets(MAX_DAMAGE, damage)?;
+    if !reader.is_end() {
+        return None;
     }
-    Reading::Nothing
-}
-
-// A number after one space.
-pub fn after_at(text: &[u8], at: usize, limit: u32) -> Reading
-    ensures { (found_at text.now result ≡ spaced_number limit (drop at text.now)) × Inside text.now result }
-{
-    if is_at(text, at, b' ') {
-        return number_at(text, at + 1, limit);
-    }
-    Reading::Nothing
-}
-
-// So many octets as numbers, each after one space, written over the front of out.
-fn numbers_at(text: &[u8], at: usize, count: u32, out: &mut [u8]) -> Reading
-    requires { count ≤ length out.old }
-    ensures { (octets_at text.now out.new result ≡ numbers count (drop at text.now)) × Kept out.old out.new result }
-{
-    let mut next = at;
-    let mut i: u32 = 0;
-    while i < count {
-        let reading = after_at(text, next, MAX_OCTET);
-        let Reading::Number { value, next: place } = reading else {
-            return Reading::Nothing;
-        };
-        out[i as usize] = value as u8;
-        next = place;
-        i += 1;
-    }
-    Reading::Number { value: count, next }
-}
-
-// So many octets after their count.
-fn counted_at(text: &[u8], at: usize, limit: u32, out: &mut [u8]) -> Reading
-    requires { limit ≤ length out.old }
-    ensures { (octets_at text.now out.new result ≡ counted_octets limit (drop at text.now)) × Kept out.old out.new result }
-{
-    let count = after_at(text, at, limit);
-    let Reading::Number { value, next } = count else {
-        return Reading::Nothing;
-    };
-    numbers_at(text, next, value, out)
-}
-
-// The settings after their count.
-fn settings_of(text: &[u8]) -> SettingsRead
-    ensures { settings_at text.now result ≡ settings text.now }
-{
-    if !is_at(text, 0, b'2') {
-        return SettingsRead::Nothing;
-    }
-    let object = after_at(text, 1, MAX_OBJECT);
-    let Reading::Number { value: ioa, next } = object else {
-        return SettingsRead::Nothing;
-    };
-    let name = after_at(text, next, MAX_NAME);
-    let Reading::Number { value, next } = name else {
-        return SettingsRead::Nothing;
-    };
-    SettingsRead::Are {
+    Some(ReadScript {
         ioa,
-        nof: Nof {
-            value: value as u16,
-        },
-        next,
-    }
+        nof: Nof { value: nof as u16 },
+        file,
+        damage,
+    })
 }
 
-// Whether one newline stands at the place and ends the text.
-pub fn is_end(text: &[u8], at: usize) -> bool
-    ensures { result ≡ ends (drop at text.now) }
-{
-    if is_at(text, at, b'\n') {
-        return text.len() - at == 1;
-    }
-    false
-}
-
-// Reads a script and writes its octets as they come: what a refusal leaves in the buffers is open.
-fn script_in(text: &[u8], file: &mut [u8], damage: &mut [u8]) -> ScriptResult
-    requires { (8192 ≤ length file.old) × (255 ≤ length damage.old) }
-    ensures { (result ≡ answer_of (script_of text.now)) × Filled (script_of text.now) file.old file.new damage.old damage.new }
-{
-    let head = settings_of(text);
-    let SettingsRead::Are { ioa, nof, next } = head else {
-        return ScriptResult::Err(FtError::ScriptMisshapen);
-    };
-    let octets = counted_at(text, next, MAX_FILE, file);
-    let Reading::Number {
-        value: file_len,
-        next,
-    } = octets
-    else {
-        return ScriptResult::Err(FtError::ScriptMisshapen);
-    };
-    let sections = counted_at(text, next, MAX_DAMAGE, damage);
-    let Reading::Number {
-        value: damage_len,
-        next,
-    } = sections
-    else {
-        return ScriptResult::Err(FtError::ScriptMisshapen);
-    };
-    if is_end(text, next) {
-        return ScriptResult::Ok(Outline {
-            ioa,
-            nof,
-            file_len: file_len as usize,
-            damage_len: damage_len as usize,
-        });
-    }
-    ScriptResult::Err(FtError::ScriptMisshapen)
-}
-
-// Reads a script: its octets go over the fronts of the buffers, which any other text leaves as they
-// were. So the text is read to its end once, before the buffers are written.
-pub fn read(text: &[u8], file: &mut [u8; 8192], damage: &mut [u8; 255]) -> ScriptResult
+// Reads a script: its octets go over the fronts of the buffers, which any other text leaves as they were. So
+// it is read into others first. The buffers stay arrays: fixed memory is a rule of the project, and the clauses
+// say what they hold afterwards.
+#[tactic(auto, unfolding(crate::specs::Answers::answer_of, crate::specs::Answers::file_after, crate::specs::Answers::damage_after))]
+pub fn read(text: &[u8], file: &mut [u8; 8192], damage: &mut [u8; 255]) -> Result<Outline, FtError>
     ensures { (result ≡ answer_of (script_of text.now)) × (file.new ≡ file_after (script_of text.now) file.old) × (damage.new ≡ damage_after (script_of text.now) damage.old) }
 {
     let mut octets = [0u8; 8192];
     let mut sections = [0u8; 255];
-    let trial = script_in(text, &mut octets, &mut sections);
-    let ScriptResult::Ok(_) = trial else {
-        return ScriptResult::Err(FtError::ScriptMisshapen);
+    let Some(script) = script(text, &mut octets, &mut sections) else {
+        return Err(FtError::ScriptMisshapen);
     };
-    script_in(text, file, damage)
+    let file_len = script.file.len();
+    let damage_len = script.damage.len();
+    file[..file_len].copy_from_slice(script.file);
+    damage[..damage_len].copy_from_slice(script.damage);
+    Ok(Outline {
+        ioa: script.ioa,
+        nof: script.nof,
+        file_len,
+        damage_len,
+    })
 }

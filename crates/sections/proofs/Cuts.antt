@@ -2,18 +2,19 @@
 use mathlib.Core.Path.{◌≡◌, ap}
 use mathlib.Core.Bool.{Bool, true, false}
 use mathlib.Core.List.{List, [], ◌∷◌}
-use Prim.Native.Nat.{ℕ, zero, suc, ◌+◌, ◌-◌, ◌*◌, ◌≤◌, min}
-use native.Mathlib.Nat.{zero-min, suc-min-suc, add-sub_cancel_left, le-max_left, min-le_left, mul-le-mul, lt_of_le_of_lt, lt_of_mul-lt-mul_right, div-zero}
+use Prim.Native.Nat.{ℕ, zero, suc, ◌+◌, ◌-◌, ◌*◌, ◌/◌, ◌%◌, ◌≤◌, ◌<◌, min}
+use native.Mathlib.Nat.{zero-min, suc-min-suc, add-sub_cancel_left, le-max_left, min-le_left, mul-le-mul, lt_of_le_of_lt, lt_of_mul-lt-mul_right, suc-mul, div-zero}
 use native.Mathlib.Omega.{arith}
 use lib.Dec.{eqb, lit<}
 use lib.ListN.{length, take, drop, length-take, length-drop}
 use lib.Seq.{take-nil, drop-nil}
 use mir.Val.{Fits}
 use mir.Syntax.{w64}
+use Rattle.std.proofs.lemmas.Grind.{div_ceil_times}
 use Rattle.laws.specs.When.{when}
 use Rattle.laws.proofs.Decide.{whens}
 use Rattle.lists.specs.Parts.{div_ceil}
-use Rattle.lists.proofs.Parts.{ceil_least}
+use Rattle.lists.proofs.Parts.{ceil_enough, ceil_least}
 use Rattle.sections.specs.Sections.{section_length, section_octets, segment_octets}
 
 -- ---- products of 32 bits
@@ -30,6 +31,16 @@ product_most k n a b p q = mul-le-mul p q
 pub ceil_none : (a : ℕ) → div_ceil a 0 ≡ 0
 unfolding div_ceil
 ceil_none a = div-zero _
+
+-- the standard library's division rounded up is this one
+pub ceil_same : (a b : ℕ) → 0 < b → a / b + min 1 (a % b) ≡ div_ceil a b
+ceil_same a b h =
+    let q = a / b + min 1 (a % b) in
+    let p = div_ceil a b in
+    let times = div_ceil_times a b h in
+    let f : q < suc p = lt_of_mul-lt-mul_right b {m = q} {n = suc p} (rw suc-mul (omega (arith, times.1, ceil_enough a b h))) in
+    let g : p < suc q = lt_of_mul-lt-mul_right b {m = p} {n = suc q} (rw suc-mul (omega (arith, times.0, ceil_least a b h))) in
+    omega (arith, f, g)
 
 -- there are at most as many parts as octets
 pub ceil_most : (a b : ℕ) → div_ceil a b ≤ a

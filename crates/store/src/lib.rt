@@ -10,34 +10,14 @@ ghost use Rattle.store.specs.Store.{written};
 pub fn is_held(kept: usize, staged: usize, len: usize) -> bool
     ensures { result ≡ leb (kept + staged) len }
 {
-    if kept <= len {
-        if staged <= len - kept {
-            return true;
-        }
-    }
-    false
+    kept <= len && staged <= len - kept
 }
 
 // Whether it has room for so many octets more.
 fn has_room(kept: usize, staged: usize, more: usize, len: usize) -> bool
     ensures { result ≡ leb (kept + staged + more) len }
 {
-    if is_held(kept, staged, len) {
-        return is_held(kept + staged, more, len);
-    }
-    false
-}
-
-// Copies the octets over the front of a part.
-fn copy_front(part: &mut [u8], octets: &[u8])
-    requires { length octets.now ≤ length part.old }
-    ensures { part.new ≡ octets.now ++ drop (length octets.now) part.old }
-{
-    let mut i = 0;
-    while i < octets.len() {
-        part[i] = octets[i];
-        i += 1;
-    }
+    is_held(kept, staged, len) && is_held(kept + staged, more, len)
 }
 
 // Writes the octets into the store's middle, after those accepted and under way, and says so; or leaves
@@ -45,9 +25,10 @@ fn copy_front(part: &mut [u8], octets: &[u8])
 pub fn write_at(store: &mut [u8], kept: usize, staged: usize, octets: &[u8]) -> bool
     ensures { (result ≡ leb (kept + staged + length octets.now) (length store.old)) × (store.new ≡ when result (written store.old (kept + staged) octets.now) store.old) }
 {
-    if has_room(kept, staged, octets.len(), store.len()) {
-        copy_front(&mut store[kept + staged..], octets);
-        return true;
+    if !has_room(kept, staged, octets.len(), store.len()) {
+        return false;
     }
-    false
+    let place = kept + staged;
+    store[place..place + octets.len()].copy_from_slice(octets);
+    true
 }

@@ -1,18 +1,20 @@
 -- Entries written into a store one after the other, and the last-file flag read at a place.
-use Prim.Native.Nat.{ℕ, zero, suc, ◌+◌, ◌-◌, ◌*◌, ◌≤◌, ◌<◌}
+use Prim.Native.Nat.{ℕ, zero, suc, ◌+◌, ◌*◌, ◌/◌, ◌≤◌, ◌<◌}
 use mathlib.Core.Path.{◌≡◌, refl, ◌∙◌}
-use mathlib.Core.Bool.{true}
+use mathlib.Core.Bool.{true, false}
 use mathlib.Core.List.{List, ◌++◌, append_assoc, append-nil}
 use native.Mathlib.Nat.{add-zero, zero-add, suc-add}
 use native.Mathlib.Omega.{arith}
+use borrow.Rule.Slice.PartMut.{put_mid}
 use lib.ListN.{length, take, drop, get_or, length-append, length-drop}
-use lib.Seq.{length-take-le, drop-drop, get_or-take, get_or-drop}
-use borrow.Author.Tests.{leb-true}
+use lib.Seq.{length-take-le, drop-drop, take_at, drop_at}
+use borrow.Author.Tests.{leb-true, eq-eqb, ne_eqb}
+use Rattle.laws.proofs.Decide.{whens}
 use Rattle.laws.specs.When.{◌or◌}
 use Rattle.store.specs.Store.{written}
-use Rattle.store.proofs.Written.{written_twice}
+use Rattle.store.proofs.Written.{written_none, written_twice, written_lent}
 use Rattle.asdu.specs.Entry.{bit_of, sof_of, entry_of, entry_address}
-use Rattle.stored.specs.Stored.{any_last, address_octets, stored_entry, stored_from, room_for}
+use Rattle.stored.specs.Stored.{entries_in, has_last, address_octets, stored_entry, stored_from, page_stored, room_for}
 
 -- where there is room, the octets of all entries are within the store
 pub room_is : (held more len : ℕ) → room_for held more len ≡ true → 17 * (held + more) ≤ len
@@ -40,23 +42,50 @@ stored_long (suc n) k base o h =
     let rest : length (stored_from n (suc k) base (drop 13 o)) ≡ 17 * n = stored_long n (suc k) base (drop 13 o) (rw length-drop (omega arith)) in
     rw (length-append, entry_long, first, rest) (omega arith)
 
--- one entry more
-pub page_next : (s o : List ℕ) (place ioa i : ℕ) → place + 17 * (i + 1) ≤ length s → 13 * (i + 1) ≤ length o
-    → written (written s place (stored_from i 0 ioa o)) (place + 17 * i) (stored_entry (entry_address ioa i) (take 13 (drop (13 * i) o)))
-    ≡ written s place (stored_from (i + 1) 0 ioa o)
-page_next s o place ioa i room whole =
-    let long : length (stored_from i 0 ioa o) ≡ 17 * i = stored_long i 0 ioa o (omega arith) in
-    let all : stored_from (i + 1) 0 ioa o ≡ stored_from i 0 ioa o ++ stored_entry (entry_address ioa i) (take 13 (drop (13 * i) o)) =
-    stored_split i 1 0 ioa o ∙ rw (zero-add, append-nil) in
-    rw (all, ← long) (written_twice s place (stored_from i 0 ioa o) (stored_entry (entry_address ioa i) (take 13 (drop (13 * i) o))) (omega arith))
+-- one entry more, where the entries that are left are told
+module _ (o e rest : List ℕ) (i : ℕ) (left : drop (13 * i) o ≡ e ++ rest) (long : length e ≡ 13) where
+  pub left_whole : 13 * (i + 1) ≤ length o
+  left_whole = let n : length (drop (13 * i) o) ≡ 13 + length rest = rw (left, length-append, long) in omega (arith, rw length-drop at n)
+
+  pub left_next : rest ≡ drop (13 * (i + 1)) o
+  left_next =
+      let place : 13 * (i + 1) ≡ 13 * i + 13 = omega arith in
+      rw (place, ← (drop-drop 13 (13 * i) o), left, drop_at e rest 13 long)
+
+  pub page_next : (s t x : List ℕ) (place ioa n : ℕ) → t ≡ written s place (stored_from i 0 ioa o) → x ≡ stored_entry (entry_address ioa i) e → n ≡ 17
+      → place + 17 * (i + 1) ≤ length s → put_mid (place + 17 * i) n t x ≡ written s place (stored_from (i + 1) 0 ioa o)
+  page_next s t x place ioa n text entry size room =
+      let before : length (stored_from i 0 ioa o) ≡ 17 * i = stored_long i 0 ioa o (omega (arith, left_whole)) in
+      let own : take 13 (drop (13 * i) o) ≡ e = rw (left) (take_at e rest 13 long) in
+      let all : stored_from (i + 1) 0 ioa o ≡ stored_from i 0 ioa o ++ x = stored_split i 1 0 ioa o ∙ rw (zero-add, append-nil, own, entry) in
+      let lent : length x ≡ n = rw (entry, entry_long) (omega arith) in
+      rw (written_lent t (place + 17 * i) n x lent, text, all, ← before) (written_twice s place (stored_from i 0 ioa o) x (omega arith))
+
+-- all of them
+pub page_whole : (o : List ℕ) (ioa i : ℕ) → 13 * i ≤ length o → length (drop (13 * i) o) < 13 → stored_from i 0 ioa o ≡ page_stored ioa o
+unfolding page_stored entries_in
+page_whole o ioa i whole none =
+    let n : length o / 13 ≡ i = omega (arith, rw length-drop at none) in rw n
+
+-- for the proof of the function that writes a page
+pub ruleset pages = (left_whole, left_next, page_next, page_whole, written_none)
 
 -- ---- the last-file flag
 
 -- one entry, and those after it
-pub last_next : (o : List ℕ) (at n : ℕ) → 0 < n
-    → any_last n (drop at o) ≡ (bit_of 32 (get_or o (at + 5) 0) or any_last (n - 1) (drop (at + 13) o))
-unfolding entry_of sof_of
-last_next o at zero h = absurd (omega arith)
-last_next o at (suc n) h =
-    let e : suc n - 1 ≡ n = omega arith in
-    rw (get_or-take 13 (drop at o) 5 0 (omega arith), get_or-drop at o 5 0, drop-drop 13 at o, e)
+pub last_next : (e rest : List ℕ) → length e ≡ 13 → has_last (e ++ rest) ≡ (bit_of 32 (get_or e 5 0) or has_last rest)
+unfolding has_last entries_in entry_of sof_of
+last_next e rest h =
+    let n : (13 + length rest) / 13 ≡ suc (length rest / 13) = omega arith in
+    rw (length-append, h, n, take_at e rest 13 h, drop_at e rest 13 h)
+
+-- no whole entry
+pub last_none : (o : List ℕ) → length o < 13 → has_last o ≡ false
+unfolding has_last entries_in
+last_none o h = let n : length o / 13 ≡ 0 = omega arith in rw n
+
+-- for the proof of the function that looks for the flag
+pub ruleset flags = (last_next, last_none, whens, eq-eqb, ne_eqb)
+
+-- for the proof of the function that writes a page where it has room
+pub ruleset written_pages = (room_is, whens)

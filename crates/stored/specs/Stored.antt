@@ -1,9 +1,10 @@
 -- The entries of a directory page, packed in 13 octets each, and how they stand in a store, in 17; where a page is written, and where it is not (document 01, The directory and Refused because of the state, 25).
-use Rattle.std.specs.Prelude.{ℕ, zero, suc, ◌+◌, ◌*◌, ◌/◌, ◌%◌, Bool, false, List, [], ◌∷◌, ◌++◌, leb, length, take, drop, get_or}
+use Rattle.std.specs.Prelude.{ℕ, zero, suc, ◌+◌, ◌*◌, ◌/◌, ◌%◌, Bool, false, List, [], ◌∷◌, ◌++◌, leb, length, take, drop, get_or, Result}
 use Rattle.laws.specs.When.{when, ◌or◌}
 use Rattle.store.specs.Store.{written}
 use Rattle.asdu.specs.Entry.{entry_of, unpacked, entry_address}
-use Rattle.asdu.specs.declared.EntryResult.{EntryResult}
+use Rattle.asdu.specs.declared.DirectoryEntry.{DirectoryEntry}
+use Rattle.asdu.specs.declared.FtError.{FtError}
 
 -- how many entries a page has
 unfoldable pub entries_in : List ℕ → ℕ
@@ -56,5 +57,5 @@ unfoldable pub address_in : List ℕ → ℕ
 address_in s = get_or s 0 0 + 256 * get_or s 1 0 + 65536 * get_or s 2 0 + 16777216 * get_or s 3 0
 
 -- the entry behind it
-unfoldable pub entry_in : List ℕ → EntryResult
+unfoldable pub entry_in : List ℕ → Result DirectoryEntry FtError
 entry_in s = unpacked (drop 4 s)

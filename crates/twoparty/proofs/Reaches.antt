@@ -7,6 +7,7 @@ use native.Mathlib.Omega.{arith}
 use lib.Dec.{eqb, ltb}
 use lib.ListN.{length}
 use borrow.Author.Tests.{eqb-true, ltb-true, leb-true}
+use Rattle.std.specs.Prelude.{Err, Ok, Result}
 use Rattle.laws.specs.When.{when}
 use Rattle.asdu.specs.declared.Nos.{Nos}
 use Rattle.asdu.specs.declared.FtError.{FtError}
@@ -16,14 +17,12 @@ use Rattle.provide.specs.Replies.{octets_of, limit_of, segment_count, only, sect
 use Rattle.provide.specs.declared.Provider.{Provider}
 use Rattle.requests.specs.declared.Reply.{Reply}
 use Rattle.requests.specs.declared.Reply.TheVariants.{Nothing, FileReady, SectionReady, Section, FileClose}
-use Rattle.provide.specs.declared.FrameResult.{FrameResult}
-use Rattle.provide.specs.declared.FrameResult.TheVariants.{Ok, Err}
 use Rattle.provide.proofs.Making.{agrees}
 use Rattle.sections.proofs.SectionLaws.{section_within}
 use Rattle.sections.proofs.Cuts.{ceil_most}
 
 -- a frame that is found past a test
-found : (b : Bool) (e : FtError) (x : FrameResult) (f : Frame) → when b x (Err e) ≡ Ok f → (b ≡ true) × (x ≡ Ok f)
+found : (b : Bool) (e : FtError) (x : Result Frame FtError) (f : Frame) → when b x (Err e) ≡ Ok f → (b ≡ true) × (x ≡ Ok f)
 unfolding when
 found true e x f h = (refl, h)
 found false e x f h = (cc, cc)
@@ -32,7 +31,7 @@ only_below : (g : Frame) (i : ℕ) (f : Frame) → only g i ≡ Ok f → i ≤ 0
 unfolding only
 only_below g i f h = omega (arith, eqb-true i 0 (found (eqb i 0) _ (Ok g) f h).0)
 
-either_below : (i n : ℕ) (a : Bool) (x : FrameResult) (g f : Frame)
+either_below : (i n : ℕ) (a : Bool) (x : Result Frame FtError) (g f : Frame)
     → (a ≡ true → i ≤ n) → (x ≡ Ok f → i ≤ n) → when a (Ok g) x ≡ Ok f → i ≤ n
 unfolding when
 either_below i n true x g f h k q = h refl

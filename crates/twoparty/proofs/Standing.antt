@@ -7,11 +7,11 @@ use native.Mathlib.Omega.{arith}
 use native.Mathlib.Numerals.{add-one}
 use native.Mathlib.Decide.{dec_lt}
 use lib.ListN.{length, drop, get_or}
+use Rattle.std.specs.Prelude.{Ok}
 use Rattle.laws.specs.When.{when}
 use Rattle.provide.specs.Record.{file_agrees}
 use Rattle.provide.specs.Replies.{Packet, bare, file_ready, replies, reply_frame}
 use Rattle.provide.specs.declared.Provider.{Provider}
-use Rattle.provide.specs.declared.FrameResult.TheVariants as F
 use Rattle.requests.specs.declared.Reply.{Reply}
 use Rattle.provide.proofs.Indexed.{replies_agree}
 use Rattle.receive.specs.Record.{awaited}
@@ -52,7 +52,7 @@ module _ (p : Provider) (file : List ℕ) where
   first_is r reply i d h = told_at d i (replies p file reply) none h ∙ rw (add-one i)
 
   module _ (agrees : file_agrees p file ≡ true) where
-    pub frame_is : (reply : Reply) (i : ℕ) → i < length (replies p file reply) → reply_frame p file reply i ≡ F.Ok (packet_at reply i).frame
+    pub frame_is : (reply : Reply) (i : ℕ) → i < length (replies p file reply) → reply_frame p file reply i ≡ Ok (packet_at reply i).frame
     frame_is reply i h = (replies_agree p file reply agrees).frame i none h
 
     reply_shown : (r : Receiver) (reply : Reply) (i : ℕ) (d : Bool) → Dec (i < length (replies p file reply))

@@ -1,6 +1,6 @@
 -- The exchange (document 01, The exchange) a second time, as the code's record keeps it: the queue is one frame of the Receiver's, or the rest of one reply of the Provider's, and the sendings to come are a section and a number.
 -- What a customer must believe is the exchange (exchange/specs/Exchange.antt). These laws tie the two: `next_shown` (proofs/Standing.antt), that the frame shown is the first of the exchange's queue; `sight` (run/proofs/Following.antt), that a step here is a step there; `run_is` (run/proofs/Running.antt) and `frames_shown` (run/proofs/Showing.antt), that whole runs are the same.
-use Rattle.std.specs.Prelude.{ℕ, ◌+◌, Bool, List, leb, length}
+use Rattle.std.specs.Prelude.{ℕ, ◌+◌, Bool, List, leb, length, Result, Ok, Err, Option, Some, None}
 use Rattle.laws.specs.When.{when, unless, ◌and◌}
 use Rattle.asdu.specs.declared.FtError.TheVariants as E
 use Rattle.ft.specs.Directions.{other_role}
@@ -12,18 +12,12 @@ use Rattle.provide.specs.declared.Provider.{Provider}
 use Rattle.provide.specs.declared.ProviderStep.{ProviderStep}
 use Rattle.requests.specs.declared.ProviderAnswer.{ProviderAnswer}
 use Rattle.requests.specs.declared.ProviderAnswer.TheVariants as P
-use Rattle.provide.specs.declared.ProviderResult.{ProviderResult}
-use Rattle.provide.specs.declared.ProviderResult.TheVariants as PM
 use Rattle.requests.specs.declared.Reply.{Reply}
-use Rattle.provide.specs.declared.FrameResult.{FrameResult}
-use Rattle.provide.specs.declared.FrameResult.TheVariants as F
 use Rattle.receive.specs.Record.{receiver_made, store_agrees, awaited, started}
 use Rattle.receive.specs.Answers.{Outcome, sends}
 use Rattle.receive.specs.declared.Receiver.{Receiver}
 use Rattle.receive.specs.declared.ReceiverStep.{ReceiverStep}
 use Rattle.receive.specs.declared.ReceiverAnswer.{ReceiverAnswer}
-use Rattle.receive.specs.declared.ReceiverResult.{ReceiverResult}
-use Rattle.receive.specs.declared.ReceiverResult.TheVariants as RM
 use Rattle.exchange.specs.Stations.{station_with}
 use Rattle.exchange.specs.declared.Sender.TheVariants as S
 use Rattle.radio.specs.Radio.{all_have_octets, first_section, is_damaged, after_answer}
@@ -33,10 +27,9 @@ use Rattle.twoparty.specs.declared.Settings.{Settings}
 use Rattle.twoparty.specs.declared.Queue.{Queue}
 use Rattle.twoparty.specs.declared.Queue.TheVariants as Q
 use Rattle.twoparty.specs.declared.TwoParty.{TwoParty}
-use Rattle.twoparty.specs.declared.TwoPartyResult.{TwoPartyResult}
-use Rattle.twoparty.specs.declared.TwoPartyResult.TheVariants as T
 use Rattle.twoparty.specs.declared.NextFrame.{NextFrame}
-use Rattle.twoparty.specs.declared.NextFrame.TheVariants as N
+use Rattle.asdu.specs.declared.FtError.{FtError}
+use Rattle.frame.specs.declared.Frame.{Frame}
 
 -- ---- the making
 
@@ -52,40 +45,40 @@ asked rest a = when (sends a) Q.Receiver rest
 abbrev pub started_party : Provider → List ℕ → ReceiverStep → TwoParty
 started_party p damage s = record { provider = p; receiver = s.receiver; queue = asked Q.Empty s.answer; radio = first_section damage }
 
-abbrev pub with_receiver : Provider → List ℕ → List ℕ → ReceiverResult → TwoPartyResult
-with_receiver p damage store (RM.Ok r) = T.Ok (started_party p damage (started r store))
-with_receiver p damage store (RM.Err e) = T.Err e
+abbrev pub with_receiver : Provider → List ℕ → List ℕ → Result Receiver FtError → Result TwoParty FtError
+with_receiver p damage store (Ok r) = Ok (started_party p damage (started r store))
+with_receiver p damage store (Err e) = Err e
 
 -- 11 where damage names a section with no octets, then 24 where the store is shorter than the file
-unfoldable pub with_provider : Settings → List ℕ → List ℕ → List ℕ → Provider → TwoPartyResult
+unfoldable pub with_provider : Settings → List ℕ → List ℕ → List ℕ → Provider → Result TwoParty FtError
 with_provider s file damage store p =
-    unless (all_have_octets p.section_len file damage) (T.Err E.ScriptMisshapen)
-    (unless (leb (length file) (length store)) (T.Err E.StoreFull)
+    unless (all_have_octets p.section_len file damage) (Err E.ScriptMisshapen)
+    (unless (leb (length file) (length store)) (Err E.StoreFull)
     (with_receiver p damage store (receiver_made (station_of s (other_role s.role)) s.ioa s.nof)))
 
-abbrev pub after_making : Settings → List ℕ → List ℕ → List ℕ → ProviderResult → TwoPartyResult
-after_making s file damage store (PM.Ok p) = with_provider s file damage store p
-after_making s file damage store (PM.Err e) = T.Err e
+abbrev pub after_making : Settings → List ℕ → List ℕ → List ℕ → Result Provider FtError → Result TwoParty FtError
+after_making s file damage store (Ok p) = with_provider s file damage store p
+after_making s file damage store (Err e) = Err e
 
 -- before any frame: 2, 3 and 1 of the making, 11, 24
-unfoldable pub party_made : Settings → List ℕ → List ℕ → List ℕ → TwoPartyResult
+unfoldable pub party_made : Settings → List ℕ → List ℕ → List ℕ → Result TwoParty FtError
 party_made s file damage store = after_making s file damage store (provider_made (station_of s s.role) s.ioa s.nof (length file))
 
 -- ---- one frame
 
 -- the frame at an index of the Provider's reply, if there is one
-abbrev pub from_reply : FrameResult → NextFrame
-from_reply (F.Ok f) = N.Frame S.Provider f
-from_reply (F.Err e) = N.Nothing
+abbrev pub from_reply : Result Frame FtError → Result (Option NextFrame) FtError
+from_reply (Ok f) = Ok (Some (record { sender = S.Provider; frame = f }))
+from_reply (Err e) = Ok None
 
-abbrev pub first : Provider → Receiver → List ℕ → Queue → NextFrame
-first p r file Q.Empty = N.Nothing
-first p r file Q.Receiver = N.Frame S.Receiver (awaited r)
+abbrev pub first : Provider → Receiver → List ℕ → Queue → Result (Option NextFrame) FtError
+first p r file Q.Empty = Ok None
+first p r file Q.Receiver = Ok (Some (record { sender = S.Receiver; frame = (awaited r) }))
 first p r file (Q.Provider reply i damaged) = from_reply (reply_frame p file reply i)
 
 -- the queue's first frame; 26 first
-unfoldable pub next_frame : TwoParty → List ℕ → NextFrame
-next_frame t file = unless (file_agrees t.provider file) (N.Err E.RecordMismatch) (first t.provider t.receiver file t.queue)
+unfoldable pub next_frame : TwoParty → List ℕ → Result (Option NextFrame) FtError
+next_frame t file = unless (file_agrees t.provider file) (Err E.RecordMismatch) (first t.provider t.receiver file t.queue)
 
 -- a transfer and the store
 pub record Moved : Type 0 where
@@ -125,10 +118,10 @@ after_receiver t rest o =
       store = o.store;
     }
 
-abbrev pub to_receiver : TwoParty → List ℕ → List ℕ → Reply → ℕ → Bool → FrameResult → Moved
-to_receiver t file store reply i damaged (F.Ok f) =
+abbrev pub to_receiver : TwoParty → List ℕ → List ℕ → Reply → ℕ → Bool → Result Frame FtError → Moved
+to_receiver t file store reply i damaged (Ok f) =
     after_receiver t (Q.Provider reply (i + 1) damaged) (receiver_handed t.provider t.receiver file store reply i damaged f)
-to_receiver t file store reply i damaged (F.Err e) = still t store
+to_receiver t file store reply i damaged (Err e) = still t store
 
 -- the queue's first frame passes; an empty queue stays
 abbrev pub moved_by : TwoParty → List ℕ → List ℕ → List ℕ → Queue → Moved
@@ -140,14 +133,14 @@ unfoldable pub advanced : TwoParty → List ℕ → List ℕ → List ℕ → Mo
 advanced t file damage store = moved_by t file damage store t.queue
 
 pub record PartyStep : Type 0 where
-  pub result : TwoPartyResult
+  pub result : Result TwoParty FtError
   pub store : List ℕ
 
 abbrev pub went : Moved → PartyStep
-went m = record { result = T.Ok m.party; store = m.store }
+went m = record { result = Ok m.party; store = m.store }
 
 -- 26 first: a record that a making gives of this file, and one whose octets the store holds
 unfoldable pub party_stepped : TwoParty → List ℕ → List ℕ → List ℕ → PartyStep
 party_stepped t file damage store =
-    unless (file_agrees t.provider file and store_agrees t.receiver store) (record { result = T.Err E.RecordMismatch; store = store })
+    unless (file_agrees t.provider file and store_agrees t.receiver store) (record { result = Err E.RecordMismatch; store = store })
     (went (advanced t file damage store))

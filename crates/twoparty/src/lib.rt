@@ -1,5 +1,6 @@
 // A transfer between two parties, frame by frame (document 01, A transfer script): one Provider and one Receiver, and between them a
-// radio that raises octets where the damage list says so. File, damage and store are lent to each call.
+// radio that raises octets where the damage list says so. File, damage and store are lent to
+// each call, one by one: in a struct of lent slices each clause would have to name them through its entry.
 #![tactic(auto)]
 
 mod begin; // the tests before any frame, and the start
@@ -16,7 +17,7 @@ use requests::Reply;
 pub use step::replied;
 
 // What a run is given beside file, damage and store.
-#[derive(Clone, Copy)]
+#[derive(Clone, Copy, PartialEq, Eq)]
 pub struct Settings {
     pub sizes: AddressSizes,
     // Both stations' own.
@@ -29,7 +30,7 @@ pub struct Settings {
 
 // The frames on their way. What a Receiver sends is one frame, the one whose answer its record awaits;
 // what a Provider sends is a reply, of which the frames from `next` on are still to come.
-#[derive(Clone, Copy)]
+#[derive(Clone, Copy, PartialEq, Eq)]
 pub enum Queue {
     Empty,
     Receiver,
@@ -42,7 +43,7 @@ pub enum Queue {
 }
 
 // A transfer under way.
-#[derive(Clone, Copy)]
+#[derive(Clone, Copy, PartialEq, Eq)]
 pub struct TwoParty {
     pub provider: Provider,
     pub receiver: Receiver,
@@ -50,16 +51,9 @@ pub struct TwoParty {
     pub radio: Radio,
 }
 
-#[derive(Clone, Copy)]
-pub enum TwoPartyResult {
-    Ok(TwoParty),
-    Err(FtError),
-}
-
 // The frame that passes next, and whose it is.
-#[derive(Clone, Copy)]
-pub enum NextFrame {
-    Nothing,
-    Frame { sender: Sender, frame: Frame },
-    Err(FtError),
+#[derive(Clone, Copy, PartialEq, Eq)]
+pub struct NextFrame {
+    pub sender: Sender,
+    pub frame: Frame,
 }

@@ -7,6 +7,7 @@ use native.Mathlib.Nat.{mod-lt}
 use native.Mathlib.Omega.{arith}
 use lib.ListN.{length, length-append, length-set}
 use lib.Seq.{drop-append-le}
+use Rattle.std.specs.Prelude.{Err, Ok}
 use Rattle.laws.specs.When.{unless}
 use Rattle.laws.proofs.Decide.{whens}
 use Rattle.asdu.specs.declared.FtError.TheVariants.{InvalidWindow}
@@ -15,8 +16,6 @@ use Rattle.window.specs.Totals.{totals_of, totals_answer}
 use Rattle.window.specs.History.{after_all, window_after}
 use Rattle.window.specs.declared.Ended.{Ended}
 use Rattle.window.specs.declared.Window.{Window}
-use Rattle.window.specs.declared.WindowAnswer.TheVariants as A
-use Rattle.window.specs.declared.TotalsResult.TheVariants as T
 use Rattle.window.proofs.Latest.{length-latest, latest_none, latest_all, latest_behind, latest-drop, latest-latest, latest-append}
 use Rattle.window.proofs.Ring.{length-ring, put_in_ring}
 use Rattle.window.proofs.Right.{Right, width_numbers, numbers_right}
@@ -136,20 +135,20 @@ history_inside width history e = (since width history e).within ∙ ap (λ (xs :
 
 -- For every width and every history: the totals shown are the sums over the latest records of the history, as many as the width allows; of a width outside 1 to 64 they are refused.
 pub history_totals : (width : ℕ) (history : List Ended)
-    → totals_answer (window_after width history) ≡ unless (width_right width) (T.Err InvalidWindow) (T.Ok (totals_of (latest width history)))
+    → totals_answer (window_after width history) ≡ unless (width_right width) (Err InvalidWindow) (Ok (totals_of (latest width history)))
 unfolding totals_answer
 history_totals width history = rw (history_right width history) (by_test (width_right width) refl)
   where
     by_test : (b : Bool) → width_right width ≡ b
-        → unless b (T.Err InvalidWindow) (T.Ok (totals_of (inside (window_after width history)))) ≡ unless b (T.Err InvalidWindow) (T.Ok (totals_of (latest width history)))
+        → unless b (Err InvalidWindow) (Ok (totals_of (inside (window_after width history)))) ≡ unless b (Err InvalidWindow) (Ok (totals_of (latest width history)))
     by_test true e = rw (history_inside width history e)
     by_test false e = simp whens
 
 -- and every record is taken, or with such a width none
-pub history_taken : (width : ℕ) (history : List Ended) (e : Ended) → (adding (window_after width history) e).answer ≡ unless (width_right width) (A.Err InvalidWindow) A.Ok
+pub history_taken : (width : ℕ) (history : List Ended) (e : Ended) → (adding (window_after width history) e).answer ≡ unless (width_right width) (Err InvalidWindow) (Ok tt)
 unfolding adding
 history_taken width history e = rw (history_right width history) (by_test (width_right width))
   where
-    by_test : (b : Bool) → (unless b (refused (window_after width history)) (accepted (added (window_after width history) e))).answer ≡ unless b (A.Err InvalidWindow) A.Ok
+    by_test : (b : Bool) → (unless b (refused (window_after width history)) (accepted (added (window_after width history) e))).answer ≡ unless b (Err InvalidWindow) (Ok tt)
     by_test true = simp whens
     by_test false = simp whens

@@ -1,10 +1,10 @@
 -- The last so many of a list (`latest`, specs/Window.antt).
-use Prim.Native.Nat.{ℕ, suc, ◌+◌, ◌-◌, ◌≤◌, ◌<◌, min}
+use Prim.Native.Nat.{ℕ, ◌+◌, ◌-◌, ◌≤◌, min}
 use mathlib.Core.Path.{◌≡◌, sym, ap, ◌∙◌}
 use mathlib.Core.List.{List, [], ◌∷◌, ◌++◌}
 use native.Mathlib.Omega.{arith}
-use lib.ListN.{length, drop, get_or, length-append, length-drop}
-use lib.Seq.{drop-cons, drop-drop, drop-length, drop-append-le}
+use lib.ListN.{length, drop, length-append, length-drop}
+use lib.Seq.{drop-drop, drop-length, drop-append-le}
 use Rattle.window.specs.Window.{latest}
 
 module _ {A : Type 0} where
@@ -19,13 +19,6 @@ module _ {A : Type 0} where
   pub latest_all : (n : ℕ) (xs : List A) → length xs ≤ n → latest n xs ≡ xs
   unfolding latest
   latest_all n xs h = let e : length xs - n ≡ 0 = omega arith in rw e
-
-  -- one more in front
-  pub latest_more : (n : ℕ) (xs : List A) (d : A) → n < length xs → latest (n + 1) xs ≡ get_or xs (length xs - (n + 1)) d ∷ latest n xs
-  unfolding latest
-  latest_more n xs d h =
-      let e : suc (length xs - (n + 1)) ≡ length xs - n = omega arith in
-      drop-cons xs (length xs - (n + 1)) d (omega arith) ∙ rw e
 
   -- one more behind
   pub latest_behind : (n : ℕ) (xs : List A) (a : A) → latest (n + 1) (xs ++ (a ∷ [])) ≡ latest n xs ++ (a ∷ [])

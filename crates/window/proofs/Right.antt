@@ -34,3 +34,7 @@ right_numbers w e =
 pub numbers_right : (w : Window) → Right w → window_right w ≡ true
 unfolding window_right
 numbers_right w r = simp (whens, r.wide, le-leb _ _ r.room, lt-ltb _ _ r.next)
+
+-- what the sums and the places rest on
+pub right_bounds : (w : Window) → window_right w ≡ true → (w.place < w.width) × (w.count ≤ w.width) × (1 ≤ w.width) × (w.width ≤ 64)
+right_bounds w e = let r = right_numbers w e in (r.next, r.room, r.some, r.most)

@@ -3,22 +3,23 @@ use Prim.Native.Nat.{ℕ}
 use mathlib.Core.Bool.{Bool, true, false}
 use mathlib.Core.Path.{◌≡◌, refl}
 use mathlib.Core.List.{List, [], ◌∷◌}
+use Rattle.std.specs.Prelude.{Err, Ok, Result}
 use Rattle.laws.specs.When.{when}
 use Rattle.asdu.specs.declared.FtError.TheVariants.{InvalidWindow}
 use Rattle.window.specs.Window.{latest, by_age, inside, width_right, window_right, making, added, adding}
 use Rattle.window.specs.Totals.{totals_answer}
 use Rattle.window.specs.History.{window_after}
 use Rattle.window.specs.declared.Ended.{Ended}
-use Rattle.window.specs.declared.TotalsResult.{TotalsResult}
-use Rattle.window.specs.declared.TotalsResult.TheVariants.{Ok, Err}
+use Rattle.asdu.specs.declared.FtError.{FtError}
+use Rattle.window.specs.declared.Totals.{Totals}
 
 abbrev ended : ℕ → ℕ → ℕ → Bool → Ended
 ended octets frames damaged whole = record { octets = octets; frames = frames; damaged = damaged; whole = whole }
 
-abbrev totals : ℕ → ℕ → ℕ → ℕ → TotalsResult
+abbrev totals : ℕ → ℕ → ℕ → ℕ → Result Totals FtError
 totals octets frames damaged whole = Ok (record { octets = octets; frames = frames; damaged = damaged; whole = whole })
 
-abbrev shown : ℕ → List Ended → TotalsResult
+abbrev shown : ℕ → List Ended → Result Totals FtError
 shown width history = totals_answer (window_after width history)
 
 abbrev first : Ended

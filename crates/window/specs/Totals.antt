@@ -1,13 +1,12 @@
 -- The totals that a window shows (document 02, A14), over the records inside.
-use Rattle.std.specs.Prelude.{ℕ, ◌+◌, Bool, true, false, List, [], ◌∷◌}
+use Rattle.std.specs.Prelude.{ℕ, ◌+◌, Bool, true, false, List, [], ◌∷◌, Result, Ok, Err}
 use Rattle.laws.specs.When.{unless}
 use Rattle.asdu.specs.declared.FtError.TheVariants.{InvalidWindow}
 use Rattle.window.specs.Window.{window_right, inside}
 use Rattle.window.specs.declared.Ended.{Ended}
 use Rattle.window.specs.declared.Window.{Window}
 use Rattle.window.specs.declared.Totals.{Totals}
-use Rattle.window.specs.declared.TotalsResult.{TotalsResult}
-use Rattle.window.specs.declared.TotalsResult.TheVariants as T
+use Rattle.asdu.specs.declared.FtError.{FtError}
 
 -- what a transfer adds to the count of whole ones
 abbrev pub whole_count : Bool → ℕ
@@ -34,5 +33,5 @@ totals_of [] = no_totals
 totals_of (e ∷ es) = with_record e (totals_of es)
 
 -- 33, or the totals over the records inside
-unfoldable pub totals_answer : Window → TotalsResult
-totals_answer w = unless (window_right w) (T.Err InvalidWindow) (T.Ok (totals_of (inside w)))
+unfoldable pub totals_answer : Window → Result Totals FtError
+totals_answer w = unless (window_right w) (Err InvalidWindow) (Ok (totals_of (inside w)))

@@ -1,11 +1,10 @@
 -- The last transfers (document 02, A14): a window of 1 to 64 places takes a record for each ended transfer; when it is full the oldest leaves.
-use Rattle.std.specs.Prelude.{ℕ, ◌+◌, ◌-◌, ◌%◌, min, Bool, false, List, ◌++◌, leb, ltb, length, take, drop, set, replicate}
+use Rattle.std.specs.Prelude.{ℕ, ◌+◌, ◌-◌, ◌%◌, min, Bool, false, List, ◌++◌, leb, ltb, length, take, drop, set, replicate, Ok, Err}
 use Rattle.laws.specs.When.{unless, ◌and◌}
 use Rattle.asdu.specs.declared.FtError.TheVariants.{InvalidWindow}
 use Rattle.window.specs.declared.Ended.{Ended}
 use Rattle.window.specs.declared.Window.{Window}
 use Rattle.window.specs.declared.WindowStep.{WindowStep}
-use Rattle.window.specs.declared.WindowAnswer.TheVariants as A
 
 -- ---- what is inside
 
@@ -32,11 +31,11 @@ unfoldable pub window_right : Window → Bool
 window_right w = width_right w.width and leb w.count w.width and ltb w.place w.width
 
 abbrev pub accepted : Window → WindowStep
-accepted w = record { window = w; answer = A.Ok }
+accepted w = record { window = w; answer = (Ok tt) }
 
 -- 33, and the window as it came in
 abbrev pub refused : Window → WindowStep
-refused w = record { window = w; answer = A.Err InvalidWindow }
+refused w = record { window = w; answer = Err InvalidWindow }
 
 -- ---- the calls
 

@@ -1,28 +1,27 @@
 use Rattle.laws.proofs.Decide.{whens, yes, nay}
-use borrow.Author.Tests.{eq-eqb, ne_eqb}
 use Rattle.acceptance.specs.Closed.{file_closed}
 use Rattle.acceptance.proofs.close_file.Goals as goal
+use Rattle.acceptance.proofs.close_file.Goals.{else-is_held-via-then-is_held+else-eq, else-is_held-via-else-is_held}
 
-pub returns-then-expected-chs : goal.returns-then-expected-chs
+pub returns-then-eq : goal.returns-then-eq
 unfolding file_closed
-returns-then-expected-chs c = simp (
+returns-then-eq c = simp (
   whens,
   yes c.is_held.ensures c.if-is_held.true,
   ← c.cut.ensures,
   ← c.checksum-expected.ensures,
-  eq-eqb _ _ c.if-expected-chs.true,
+  yes c.eq.ensures c.if-eq.true,
 )
 
-pub returns-else-expected-chs : goal.returns-else-expected-chs
+pub returns : goal.returns
 unfolding file_closed
-returns-else-expected-chs c = simp (
-  whens,
-  yes c.is_held.ensures c.if-is_held.true,
-  ← c.cut.ensures,
-  ← c.checksum-expected.ensures,
-  ne_eqb _ _ c.if-expected-chs.false,
-)
-
-pub returns-else-is_held : goal.returns-else-is_held
-unfolding file_closed
-returns-else-is_held c = simp (whens, nay c.is_held.ensures c.if-is_held.false, ← c.cut.ensures, ← c.checksum-expected.ensures)
+returns c = elim c.else-is_held.branch [
+  | else-is_held-via-then-is_held+else-eq w ↦ simp (
+    whens,
+    yes c.is_held.ensures w.if-is_held.true,
+    ← c.cut.ensures,
+    ← c.checksum-expected.ensures,
+    nay w.eq.ensures w.if-eq.false,
+  )
+  | else-is_held-via-else-is_held w ↦ simp (whens, nay c.is_held.ensures w.if-is_held.false, ← c.cut.ensures, ← c.checksum-expected.ensures)
+]

@@ -1,44 +1,27 @@
-use Prim.Native.Nat.{ℕ, ◌+◌, ◌≤◌}
-use mathlib.Core.Path.{◌≡◌}
-use mathlib.Core.Bool.{Bool, true}
-use mathlib.Core.List.{List}
-use lib.Dec.{leb}
-use lib.ListN.{length}
 use Rattle.laws.proofs.Decide.{whens, yes, nay}
-use borrow.Author.Rules.{rules}
-use borrow.Author.Tests.{eq-eqb, ne_eqb, leb-true}
 use Rattle.acceptance.specs.Closed.{section_closed}
 use Rattle.acceptance.proofs.close_section.Goals as goal
+use Rattle.acceptance.proofs.close_section.Goals.{else-is_held-via-then-is_held+else-eq, else-is_held-via-else-is_held}
 
-held : (kept staged : ℕ) (store : List ℕ) (r : Bool) → r ≡ leb (kept + staged) (length store) → r ≡ true → kept + staged ≤ length store
-held kept staged store r e t = leb-true (kept + staged) (length store) (yes e t)
-
-pub overflow_add-result : goal.overflow_add-result
+pub returns-then-eq : goal.returns-then-eq
 unfolding section_closed
-overflow_add-result c = let a = c.args in
-    let h = held a.held.kept a.held.staged a.store.now _ c.is_held.ensures c.if-is_held.true in
-    search rules
-
-pub returns-then-sum-chs : goal.returns-then-sum-chs
-unfolding section_closed
-returns-then-sum-chs c = simp (
+returns-then-eq c = simp (
   whens,
   yes c.is_held.ensures c.if-is_held.true,
   ← c.cut.ensures,
   ← c.checksum-sum.ensures,
-  eq-eqb _ _ c.if-sum-chs.true,
+  yes c.eq.ensures c.if-eq.true,
 )
 
-pub returns-else-sum-chs : goal.returns-else-sum-chs
+pub returns : goal.returns
 unfolding section_closed
-returns-else-sum-chs c = simp (
-  whens,
-  yes c.is_held.ensures c.if-is_held.true,
-  ← c.cut.ensures,
-  ← c.checksum-sum.ensures,
-  ne_eqb _ _ c.if-sum-chs.false,
-)
-
-pub returns-else-is_held : goal.returns-else-is_held
-unfolding section_closed
-returns-else-is_held c = simp (whens, nay c.is_held.ensures c.if-is_held.false)
+returns c = elim c.else-is_held.branch [
+  | else-is_held-via-then-is_held+else-eq w ↦ simp (
+    whens,
+    yes c.is_held.ensures w.if-is_held.true,
+    ← c.cut.ensures,
+    ← c.checksum-sum.ensures,
+    nay w.eq.ensures w.if-eq.false,
+  )
+  | else-is_held-via-else-is_held w ↦ simp (whens, nay c.is_held.ensures w.if-is_held.false)
+]

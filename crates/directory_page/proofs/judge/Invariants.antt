@@ -1,16 +1,14 @@
--- The entries from `at` on, as many as are left, decide the rest: whether a bit of theirs is set, and whether all before them and they can be printed.
-use Prim.Native.Nat.{◌+◌, ◌*◌, ◌≤◌}
-use mathlib.Core.Path.{◌≡◌}
-use lib.ListN.{length, drop}
+-- The entries that are left decide the rest: whether a bit of theirs is set, and whether all before them and they can be printed.
+use Rattle.std.proofs.Common.{◌≡◌, ◌%◌, length}
+use Rattle.std.specs.Slice.Iter.{chunks_exact_rest, chunks_exact_size}
 use Rattle.laws.specs.When.{◌and◌}
-use Rattle.lists.specs.Parts.{parts}
-use Rattle.directory_page.specs.Page.{every, is_clear, is_printable}
+use Rattle.directory_page.specs.Page.{all_right, all_printable}
 use Rattle.directory_page.proofs.judge.Given as goal
 
-abbrev pub invariant-loop-left : goal.invariant-loop-left
-invariant-loop-left l = (l.at + 17 * l.left ≤ length l.entries)
-    × (every is_clear (parts l.initial.left 17 l.entries) ≡ every is_clear (parts l.left 17 (drop l.at l.entries)))
-    × (every is_printable (parts l.initial.left 17 l.entries) ≡ (l.printable and every is_printable (parts l.left 17 (drop l.at l.entries))))
-
-abbrev pub decreases-loop-left : goal.decreases-loop-left
-decreases-loop-left l = l.left
+abbrev pub invariant-loop-octets : goal.invariant-loop-octets
+invariant-loop-octets l = record {
+  size : chunks_exact_size l.octets-iterator ≡ 17;
+  whole : length (chunks_exact_rest l.octets-iterator) % 17 ≡ 0;
+  right : all_right l.entries ≡ all_right (chunks_exact_rest l.octets-iterator);
+  fine : all_printable l.entries ≡ (l.printable and all_printable (chunks_exact_rest l.octets-iterator));
+}

@@ -18,4 +18,4 @@ returns c =
     let damage = put_after c.put_counted-at-2.ensures.1 (omega arith) newline in
     let file = put_after c.put_counted-at.ensures.1 (omega arith) damage in
     let text = put_after c.put_settings-at.ensures.1 (omega arith) file in
-    simp (spaced-append, append_assoc) (simp append_assoc at text)
+    (omega arith, simp (spaced-append, append_assoc) (simp append_assoc at text))

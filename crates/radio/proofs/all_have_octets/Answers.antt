@@ -1,27 +1,11 @@
--- The entries passed name sections with octets: it is left to those to come.
-use mathlib.Core.Path.{refl}
-use native.Mathlib.Omega.{arith}
-use lib.ListN.{drop_of_length-le}
-use borrow.Author.Rules.{rules}
-use Rattle.laws.proofs.Decide.{whens, yes, nay}
-use Rattle.radio.proofs.Damage.{all_from}
+use Rattle.std.proofs.Common.{◌∙◌, rules, tests}
+use Rattle.std.proofs.lemmas.Iterator.{YieldsList-from_slice}
+use Rattle.std.proofs.lemmas.Iterator.Search.{all_from_yields_List}
+use Rattle.radio.specs.Radio.{has_octets}
+use Rattle.radio.proofs.Damage.{all_named}
 use Rattle.radio.proofs.all_have_octets.Goals as goal
 
-pub loop-i-init : goal.loop-i-init
-loop-i-init c = (search rules, refl)
-
-pub returns-then-not-has_octets : goal.returns-then-not-has_octets
-returns-then-not-has_octets c = let a = c.args in
-    rw (c.loop-i.invariant.1, all_from a.damage.now c.loop-i.i (omega arith) a.section_len a.file.now)
-    (simp (whens, nay c.has_octets.ensures c.if-not-has_octets.true))
-
-pub loop-i-preserved : goal.loop-i-preserved
-loop-i-preserved c = let a = c.args in (
-  search rules,
-  rw (c.loop-i.invariant.1, all_from a.damage.now c.loop-i.i (omega arith) a.section_len a.file.now)
-      (simp (whens, yes c.has_octets.ensures c.if-not-has_octets.false)),
-)
-
 pub returns : goal.returns
-returns c = let a = c.args in
-    rw (c.loop-i.invariant.1, drop_of_length-le a.damage.now {i = c.loop-i.i} c.loop-i-test.false)
+returns c =
+    let a = c.args in
+    all_from_yields_List (has_octets a.section_len a.file.now) _ _ c.all.result c.all.ensures.ran (YieldsList-from_slice a.damage.now cc) (λ x b q k. search (rules, tests)) ∙ all_named a.section_len a.file.now a.damage.now

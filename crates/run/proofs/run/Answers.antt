@@ -1,11 +1,15 @@
+use borrow.Author.Rules.{rules}
 use Rattle.run.proofs.Endings.{party_run}
 use Rattle.run.proofs.run.Goals as goal
 
-pub returns-in-Ok : goal.returns-in-Ok
-returns-in-Ok c = (
-  simp (← party_run, ← c.new.ensures, c.in-Ok.is) c.run_on.ensures.0,
-  simp (← party_run, ← c.new.ensures, c.in-Ok.is) c.run_on.ensures.1,
+pub returns-in_err-party : goal.returns-in_err-party
+returns-in_err-party c = (
+  simp (← party_run, ← c.in_err-party.ensures) (search rules),
+  simp (← party_run, ← c.in_err-party.ensures),
 )
 
-pub returns-in-Err : goal.returns-in-Err
-returns-in-Err c = (simp (← party_run, ← c.new.ensures, c.in-Err.is), simp (← party_run, ← c.new.ensures, c.in-Err.is))
+pub returns : goal.returns
+returns c = (
+  simp (← party_run, ← c.in_ok-party.ensures) c.run_on.ensures.0,
+  simp (← party_run, ← c.in_ok-party.ensures) c.run_on.ensures.1,
+)

@@ -1,16 +1,10 @@
 -- The run from here, with what is left of the budget, is the run from the start.
-use Prim.Native.Nat.{◌-◌, ◌≤◌, ◌<◌, ◌^◌}
+use Prim.Native.Nat.{◌-◌}
 use mathlib.Core.Path.{◌≡◌}
-use lib.ListN.{length}
 use Rattle.run.specs.Loop.{ran_on}
 use Rattle.run.proofs.Left.{standing}
 use Rattle.run.proofs.run_on.Given as goal
 
-abbrev pub invariant-loop-party : goal.invariant-loop-party
-invariant-loop-party l = (l.frames ≤ l.budget)
-    × (length l.store ≡ length l.initial.store)
-    × (ran_on l.budget 0 (standing l.initial.provider l.initial.receiver l.initial.queue l.initial.radio) l.file l.damage l.initial.store ≡ ran_on (l.budget - l.frames) l.frames (standing l.provider l.receiver l.queue l.radio) l.file l.damage l.store)
-    × (l.budget < 2 ^ 64)
-
-abbrev pub decreases-loop-party : goal.decreases-loop-party
-decreases-loop-party l = l.budget - l.frames
+abbrev pub invariant-loop-frames : goal.invariant-loop-frames
+invariant-loop-frames l = ran_on l.budget 0 (standing l.initial.provider l.initial.receiver l.initial.queue l.initial.radio) l.file l.damage l.initial.store
+    ≡ ran_on (l.budget - l.frames) l.frames (standing l.provider l.receiver l.queue l.radio) l.file l.damage l.store

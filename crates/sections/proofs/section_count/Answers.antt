@@ -1,17 +1,13 @@
-use borrow.Author.Rules.{rules}
 use native.Mathlib.Omega.{arith}
-use Rattle.sections.specs.Sections.{section_count}
-use Rattle.sections.proofs.Cuts.{length-least}
+use Rattle.sections.specs.Sections.{section_length, section_count}
+use Rattle.sections.proofs.Cuts.{length-least, ceil_same}
 use Rattle.sections.proofs.section_count.Goals as goal
 
-pub div_ceil-count-requires : goal.div_ceil-count-requires
-unfolding section_count
-div_ceil-count-requires c = let least = length-least c.args.length in (omega arith, search rules)
-
-pub returns-then-count-lt1 : goal.returns-then-count-lt1
-unfolding section_count
-returns-then-count-lt1 c = simp (← c.section_length-size.ensures, ← c.div_ceil-count.ensures) (omega arith)
+pub div_ceil-requires : goal.div_ceil-requires
+div_ceil-requires c = let least = length-least c.args.length in omega arith
 
 pub returns : goal.returns
 unfolding section_count
-returns c = simp (← c.section_length-size.ensures, ← c.div_ceil-count.ensures) (omega arith)
+returns c =
+    let least = length-least c.args.length in
+    rw (c.max.ensures, c.div_ceil.ensures, c.section_length.ensures, ceil_same c.args.length (section_length c.args.length) (omega arith)) (omega arith)

@@ -1,12 +1,8 @@
--- The invariant: the entries from `at` on, as many as are left, are within the octets, and decide the result.
-use Prim.Native.Nat.{◌+◌, ◌*◌, ◌≤◌}
-use mathlib.Core.Path.{◌≡◌}
-use lib.ListN.{length, drop}
-use Rattle.stored.specs.Stored.{any_last}
+-- The entries that are left decide the result.
+use Rattle.std.proofs.Common.{◌≡◌}
+use Rattle.std.specs.Slice.Iter.{chunks_exact_rest, chunks_exact_size}
+use Rattle.stored.specs.Stored.{has_last}
 use Rattle.stored.proofs.has_last.Given as goal
 
-abbrev pub invariant-loop-left : goal.invariant-loop-left
-invariant-loop-left l = (l.at + 13 * l.left ≤ length l.entries) × (any_last l.initial.left l.entries ≡ any_last l.left (drop l.at l.entries))
-
-abbrev pub decreases-loop-left : goal.decreases-loop-left
-decreases-loop-left l = l.left
+abbrev pub invariant-loop-entry : goal.invariant-loop-entry
+invariant-loop-entry l = (chunks_exact_size l.entry-iterator ≡ 13) × (has_last l.entries ≡ has_last (chunks_exact_rest l.entry-iterator))

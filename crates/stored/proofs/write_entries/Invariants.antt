@@ -1,13 +1,14 @@
--- The invariant: the entries so far are written.
-use Prim.Native.Nat.{◌-◌, ◌≤◌}
-use mathlib.Core.Path.{◌≡◌}
-use lib.ListN.{length}
+-- The entries so far are written, and the others are left.
+use Rattle.std.proofs.Common.{◌≡◌, ◌*◌, ◌≤◌, length, drop}
+use Rattle.std.specs.Slice.Iter.{chunks_exact_rest, chunks_exact_size}
 use Rattle.store.specs.Store.{written}
 use Rattle.stored.specs.Stored.{stored_from}
 use Rattle.stored.proofs.write_entries.Given as goal
 
 abbrev pub invariant-loop-i : goal.invariant-loop-i
-invariant-loop-i l = (l.i ≤ l.count) × (l.store ≡ written l.initial.store l.place (stored_from l.i 0 l.ioa l.entries)) × (length l.store ≡ length l.initial.store)
-
-abbrev pub decreases-loop-i : goal.decreases-loop-i
-decreases-loop-i l = l.count - l.i
+invariant-loop-i l = record {
+  size : chunks_exact_size l.i-iterator.iter ≡ 13;
+  whole : 13 * l.i-iterator.count ≤ length l.entries;
+  left : chunks_exact_rest l.i-iterator.iter ≡ drop (13 * l.i-iterator.count) l.entries;
+  text : l.store ≡ written l.initial.store l.place (stored_from l.i-iterator.count 0 l.ioa l.entries);
+}

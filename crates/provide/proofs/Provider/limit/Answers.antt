@@ -4,6 +4,3 @@ use Rattle.provide.proofs.Provider.limit.Goals as goal
 
 pub overflow_cast-result : goal.overflow_cast-result
 overflow_cast-result c = let most = limit_most c.args.self.procedure.sizes in search rules
-
-pub returns : goal.returns
-returns c = simp (← c.max_segment.ensures)

@@ -6,7 +6,3 @@ use Rattle.provide.proofs.Provider.on_ack.Goals as goal
 pub overflow_cast-sections : goal.overflow_cast-sections
 unfolding on_ack
 overflow_cast-sections c = let few = few_sections c.args.self.length in search rules
-
-pub returns : goal.returns
-unfolding on_ack
-returns c = simp (← c.answered.ensures, ← c.on_ack.ensures, ← c.section_count-sections.ensures)

@@ -1,6 +1,4 @@
-use Rattle.laws.proofs.Decide.{whens}
 use borrow.Author.Rules.{rules}
-use borrow.Author.Tests.{eq-eqb, ne_eqb, lt-ltb, le-ltb}
 use mathlib.Core.Path.{ap}
 use lib.ListN.{length}
 use Rattle.provide.specs.Replies.{octets_of, limit_of, section_frame}
@@ -22,28 +20,3 @@ segment_frame-requires c = let a = c.args in
     let e = ap length c.segment-payload.ensures in
     let limit = limit_most a.self.procedure.sizes in
     search rules
-
-pub returns-then-index-count : goal.returns-then-index-count
-unfolding section_frame
-returns-then-index-count c = simp (
-  whens,
-  lt-ltb _ _ c.if-index-count.true,
-  ← c.segment_frame.ensures,
-  ← c.segment-payload.ensures,
-  ← c.segment_count-count.ensures,
-)
-
-pub returns-then-index-count-2 : goal.returns-then-index-count-2
-unfolding section_frame
-returns-then-index-count-2 c = simp (
-  whens,
-  eq-eqb _ _ c.if-index-count-2.true,
-  le-ltb _ _ c.if-index-count.false,
-  ← c.close_frame.ensures,
-  ← c.octets-octets.ensures,
-  ← c.segment_count-count.ensures,
-)
-
-pub returns : goal.returns
-unfolding section_frame
-returns c = simp (whens, ne_eqb _ _ c.if-index-count-2.false, le-ltb _ _ c.if-index-count.false, ← c.segment_count-count.ensures)

@@ -9,6 +9,3 @@ overflow_cast-result c = let a = c.args in
     let most = section_most a.self.section_len a.file.now a.nos.value in
     let e = ap length c.octets-octets.ensures in
     search rules
-
-pub returns : goal.returns
-returns c = simp (← c.octets-octets.ensures)

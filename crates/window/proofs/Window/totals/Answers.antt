@@ -1,18 +1,17 @@
-use Rattle.laws.proofs.Decide.{whens, yes, nay}
-use Rattle.window.specs.Window.{inside}
-use Rattle.window.specs.Totals.{totals_answer}
+use Rattle.std.proofs.Common.{ap, Ok, ◌≡◌, true, length, arith, rules}
+use Rattle.laws.proofs.Decide.{whens, yes}
+use Rattle.window.specs.Window.{window_right, inside}
+use Rattle.window.specs.Totals.{totals_of, totals_answer}
 use Rattle.window.proofs.Right.{right_numbers}
+use Rattle.window.proofs.Ring.{inside_by_parts}
 use Rattle.window.proofs.Window.totals.Goals as goal
-
-pub totals_of-requires : goal.totals_of-requires
-unfolding totals_answer inside
-totals_of-requires c = let r = right_numbers c.args.self (yes c.is_right.ensures c.if-is_right.true) in
-    (r.next, (r.room, r.most))
-
-pub returns-then-is_right : goal.returns-then-is_right
-unfolding totals_answer inside
-returns-then-is_right c = simp (whens, yes c.is_right.ensures c.if-is_right.true, c.totals_of.ensures)
 
 pub returns : goal.returns
 unfolding totals_answer inside
-returns c = simp (whens, nay c.is_right.ensures c.if-is_right.false)
+returns c =
+    let w = c.args.self in
+    let right : window_right w ≡ true = yes c.is_right.ensures c.if-not-is_right.false in
+    let r = right_numbers w right in
+    let long : length w.records ≡ 64 = search rules in
+    let parts = inside_by_parts w.width w.place w.records r.next (omega arith) w.count in
+    simp (whens, right) (rw (c.of.ensures, c.from-width.ensures, c.from-place.ensures, c.from.ensures) (ap (λ es. Ok (totals_of es)) parts))

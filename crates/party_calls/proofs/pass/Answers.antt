@@ -1,8 +1,0 @@
-use mathlib.Core.Path.{refl, ◌∙◌}
-use Rattle.party_calls.proofs.pass.Goals as goal
-
-pub loop-left-init : goal.loop-left-init
-loop-left-init c = refl
-
-pub loop-left-preserved : goal.loop-left-preserved
-loop-left-preserved c = c.is_passed.auto.store ∙ c.loop-left.invariant

@@ -1,4 +1,0 @@
-use Rattle.replay.proofs.list.is_played.Given as goal
-
-abbrev pub decreases-loop-left : goal.decreases-loop-left
-decreases-loop-left g l = l.left
