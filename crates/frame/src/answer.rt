@@ -168,7 +168,7 @@ pub fn answers_type(sent: Frame, answered: Frame) -> bool
 pub fn answers(sent: Frame, answered: Frame) -> bool
     ensures { result ≡ answers_to sent answered }
 {
-    sent.ioa() == answered.ioa() && answers_type(sent, answered) && names_agree(sent, answered)
+    answers_type(sent, answered) && sent.ioa() == answered.ioa() && names_agree(sent, answered)
 }
 
 // Both names: of the file, and of the section that the request named.

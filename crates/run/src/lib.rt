@@ -58,8 +58,8 @@ fn used_up(party: TwoParty, file: &[u8], frames: usize) -> Ending
 
 // With this budget from here on: spent where the next frame would exceed it, else whole. The parts of
 // the transfer's record go through the loop one by one, so that a segment moves no more than the
-// Receiver's, and each frame is made once: a loop over `TwoParty::step` would not hold the 60 ns a frame of
-// docs/SPEED.md.
+// Receiver's, and each frame is made once: docs/SPEED.md, whose goal is 60 ns a frame, has what a loop over
+// `TwoParty::step` would cost.
 fn run_on(start: TwoParty, file: &[u8], damage: &[u8], store: &mut [u8], budget: usize) -> Ending
     ensures { (Ok result ≡ (ran_on budget 0 start file.now damage.now store.old).result)
         × (store.new ≡ (ran_on budget 0 start file.now damage.now store.old).store) }
