@@ -17,7 +17,9 @@ fn raise(payload: &[u8], out: &mut [u8])
     requires { length payload.now ≤ length out.old }
     ensures { take (length payload.now) out.new ≡ raised payload.now }
 {
-    out[..payload.len()].copy_from_slice(payload);
+    for (i, &octet) in payload.iter().enumerate() {
+        out[i] = octet;
+    }
     if !payload.is_empty() {
         out[0] = payload[0].wrapping_add(1);
     }

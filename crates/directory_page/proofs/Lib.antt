@@ -1,6 +1,5 @@
 pub mod Places
 pub mod Lines
-pub mod Digits
 pub mod Entries
 pub mod Pages
 pub mod Answers

@@ -2,7 +2,7 @@
 // is its 17 octets in decimal, without leading zeros, parted by single spaces, and one newline.
 #![tactic(auto)]
 
-ghost use Rattle.std.specs.Prelude.{◌≡◌, ◌≤◌, length, IfOk};
+ghost use Rattle.std.specs.Prelude.{◌≡◌, ◌≤◌, [], length, IfOk};
 ghost use Rattle.script.specs.Left.{found_in};
 ghost use Rattle.directory_text.specs.Text.{behind, octet_in, entries_of};
 ghost use Rattle.directory_text.specs.Reading.{read_as};
@@ -37,13 +37,13 @@ fn octet_in(reader: &mut Reader, k: usize) -> Option<u8>
     Some(octet as u8)
 }
 
-// Reads the entries of a text.
+// Reads the entries of a text into an empty vector, which its caller owns: handed out, it would be copied twice.
 #[tactic(auto, using(crate::proofs::OctetLaws::entries))]
-fn read_entries(text: &[u8]) -> Option<ArrayVec<u8, MAX_OCTETS>>
-    ensures { read_as result ≡ entries_of text.now }
+fn read_entries(text: &[u8], octets: &mut ArrayVec<u8, MAX_OCTETS>) -> Option<()>
+    requires { octets.old.items ≡ [] }
+    ensures { read_as result octets.new ≡ entries_of text.now }
 {
     let mut reader = Reader { rest: text };
-    let mut octets = ArrayVec::new();
     // A `for` is no plainer: how many octets come is told by the text's end alone.
     while !reader.rest.is_empty() {
         let octet = octet_in(&mut reader, octets.len())?;
@@ -52,7 +52,7 @@ fn read_entries(text: &[u8]) -> Option<ArrayVec<u8, MAX_OCTETS>>
     if octets.len() % STORED != 0 {
         return None;
     }
-    Some(octets)
+    Some(())
 }
 
 // Writes the page of the entries that a text is over the front of a lent page, and answers how many octets it
@@ -61,8 +61,9 @@ fn read_entries(text: &[u8]) -> Option<ArrayVec<u8, MAX_OCTETS>>
 pub fn write(text: &[u8], page: &mut [u8]) -> Result<usize, FtError>
     ensures { (result ≡ text_answer (entries_of text.now) (length page.old)) × (page.new ≡ text_after (entries_of text.now) page.old) × IfOk result (λ n. n ≤ length page.old) }
 {
-    let Some(octets) = read_entries(text) else {
+    let mut octets = ArrayVec::new();
+    if read_entries(text, &mut octets).is_none() {
         return Err(FtError::ScriptMisshapen);
-    };
+    }
     directory_page::write(&octets, page)
 }

@@ -144,6 +144,7 @@ impl FileTransferProcedure {
 
     // What a received frame means: 26 on settings that no making gives, 3 on a common address over its
     // width, then steps 1 to 7.
+    #[inline(always)]
     #[tactic(auto, using(laws::proofs::Decide::decide), unfolding(crate::specs::Admission::on_asdu))]
     pub fn on_asdu(self, asdu: Incoming, beside: &[u8]) -> Result<Reaction, FtError>
         ensures { result ≡ on_asdu self asdu.header asdu.unknown asdu.received beside.now }

@@ -62,7 +62,8 @@ pub struct Incoming {
     pub received: Received,
 }
 
-// What a received frame means, or its numbered refusal. The frame is the one that was handed in.
+// What a received frame means; admission answers this or a numbered refusal. The frame is the one that was
+// handed in.
 #[derive(Clone, Copy, PartialEq, Eq)]
 pub enum Reaction {
     // A frame of the receiving side, for the one that provides the file.

@@ -6,9 +6,12 @@ use mathlib.Core.List.{List, [], ◌∷◌}
 use native.Mathlib.Omega.{arith}
 use native.Mathlib.Decide.{dec_le}
 use lib.Dec.{eqb, ltb}
-use lib.ListN.{length, length-take, length-drop}
+use lib.ListN.{length, drop, get_or, length-take, length-drop}
+use lib.Seq.{drop-cons}
+use native.Mathlib.Numerals.{add-one}
 use borrow.Author.Tests.{lt-ltb, le-ltb, eq-eqb, ne_eqb}
-use Rattle.std.specs.Prelude.{filter, cond, ◌&&◌}
+use mir.Val.{bool_byte}
+use Rattle.std.specs.Prelude.{◌&&◌}
 use Rattle.std.specs.List.{list_all}
 use Rattle.laws.specs.When.{when}
 use Rattle.laws.proofs.Decide.{whens}
@@ -16,15 +19,15 @@ use Rattle.sections.specs.Sections.{section_octets}
 use Rattle.exchange.specs.Damaging.{namings}
 use Rattle.radio.specs.Radio.{has_octets, all_have_octets}
 
--- how often a section is named, by the entries that name it
-pub named_count : (nos : ℕ) (damage : List ℕ) → length (filter (λ d. eqb d nos) damage) ≡ namings nos damage
+-- what an entry adds
+pub added : (b : Bool) → (bool_byte b ≡ when b 1 0) × (bool_byte b ≤ 1)
 unfolding when
-named_count nos [] = refl
-named_count nos (d ∷ ds) = by_test (eqb d nos) (named_count nos ds)
-  where
-    by_test : (b : Bool) → length (filter (λ x. eqb x nos) ds) ≡ namings nos ds → length (cond b (d ∷ filter (λ x. eqb x nos) ds) (filter (λ x. eqb x nos) ds)) ≡ when b 1 0 + namings nos ds
-    by_test true e = omega arith
-    by_test false e = omega arith
+added true = (refl, omega arith)
+added false = (refl, omega arith)
+
+pub namings_from : (damage : List ℕ) (i : ℕ) → i < length damage → (nos : ℕ)
+    → namings nos (drop i damage) ≡ when (eqb (get_or damage i 0) nos) 1 0 + namings nos (drop (i + 1) damage)
+namings_from damage i h nos = rw (add-one, drop-cons damage i 0)
 
 pub all_named : (size : ℕ) (file damage : List ℕ) → list_all (has_octets size file) damage ≡ all_have_octets size file damage
 unfolding when

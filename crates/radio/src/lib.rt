@@ -22,7 +22,12 @@ pub struct Radio {
 fn namings(nos: u8, damage: &[u8]) -> usize
     ensures { result ≡ namings nos damage.now }
 {
-    damage.iter().filter(|entry| **entry == nos).count()
+    let mut count = 0;
+    // Each entry adds 0 or 1: by `filter` and `count` a long list took half as long again.
+    for &entry in damage {
+        count += usize::from(entry == nos);
+    }
+    count
 }
 
 // Whether section `nos` of a file cut into sections of this length has octets.

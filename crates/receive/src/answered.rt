@@ -171,11 +171,10 @@ impl Receiver {
         if !store::write_at(store, self.kept, self.staged, payload) {
             return self.refuses(FtError::StoreFull);
         }
-        Receiver {
-            staged: self.staged + payload.len(),
-            ..self
-        }
-        .runs()
+        // Changed in place: put together anew, the record costs a tenth of a run's time.
+        let mut next = self;
+        next.staged += payload.len();
+        next.runs()
     }
 
     // What a received frame tells, by what admission makes of it as the answer to the one sent.

@@ -24,6 +24,11 @@ module _ (xs : List ℕ) (a : ℕ) (h : a ≤ length xs) where
       let e : a + (length xs - a) ≡ length xs = omega arith in
       rw (drop-drop, e, drop-length)
 
-  pub written_part : (p ys : List ℕ) → ys ≡ p ++ drop (length p) (mid_of a (length xs - a) xs) → put_mid a (length xs - a) xs ys ≡ written xs a p
+  from_there : (p ys : List ℕ) → ys ≡ p ++ drop (length p) (mid_of a (length xs - a) xs) → put_mid a (length xs - a) xs ys ≡ written xs a p
   unfolding written
-  written_part p ys e = simp (e, past_the_end, append-nil, to_the_end, drop-drop)
+  from_there p ys e = simp (e, past_the_end, append-nil, to_the_end, drop-drop)
+
+-- however the place is reckoned from which on the list is lent
+pub written_part : (xs : List ℕ) (a place : ℕ) → a ≡ place → place ≤ length xs → (p ys : List ℕ)
+    → ys ≡ p ++ drop (length p) (mid_of a (length xs - a) xs) → put_mid a (length xs - a) xs ys ≡ written xs place p
+written_part xs a place same h p ys e = rw (← same) (from_there xs a (rw (← same) at h) p ys e)

@@ -20,6 +20,17 @@ fn has_room(kept: usize, staged: usize, more: usize, len: usize) -> bool
     is_held(kept, staged, len) && is_held(kept + staged, more, len)
 }
 
+// Copies the octets over the front of a part, one by one: by the library's `copy_from_slice` the archive for C would
+// need `memmove` from outside.
+fn copy_front(part: &mut [u8], octets: &[u8])
+    requires { length octets.now ≤ length part.old }
+    ensures { part.new ≡ octets.now ++ drop (length octets.now) part.old }
+{
+    for (i, &octet) in octets.iter().enumerate() {
+        part[i] = octet;
+    }
+}
+
 // Writes the octets into the store's middle, after those accepted and under way, and says so; or leaves
 // the store where it cannot take them there.
 pub fn write_at(store: &mut [u8], kept: usize, staged: usize, octets: &[u8]) -> bool
@@ -28,7 +39,6 @@ pub fn write_at(store: &mut [u8], kept: usize, staged: usize, octets: &[u8]) -> 
     if !has_room(kept, staged, octets.len(), store.len()) {
         return false;
     }
-    let place = kept + staged;
-    store[place..place + octets.len()].copy_from_slice(octets);
+    copy_front(&mut store[kept + staged..], octets);
     true
 }

@@ -4,7 +4,7 @@
 // are asked for, so that nothing in a window can disagree with its records.
 #![tactic(auto)]
 
-ghost use Rattle.std.specs.Prelude.{◌≡◌, ◌+◌, ◌≤◌, true, ◌++◌, length, drop};
+ghost use Rattle.std.specs.Prelude.{◌≡◌, ◌+◌, ◌-◌, ◌≤◌, true, ◌++◌, length, drop};
 ghost use Rattle.window.specs.Window.{width_right, window_right, empty_window, accepted, refused, making, added, adding};
 ghost use Rattle.window.specs.Totals.{with_record, totals_of, totals_answer};
 ghost use Rattle.window.specs.Ranges.{WithinBy, RisenBy};
@@ -56,6 +56,22 @@ pub struct Totals {
     pub whole: u64,
 }
 
+// Older and newer records without so many of the oldest. Cut off here, they cost nothing; to `skip` them takes a
+// turn for each.
+fn without_oldest<'a>(
+    older: &'a [Ended],
+    newer: &'a [Ended],
+    left: usize,
+) -> (&'a [Ended], &'a [Ended])
+    ensures { (result.0.now ≡ drop left older.now) × (result.1.now ≡ drop (left - length older.now) newer.now) }
+{
+    let gone = left.saturating_sub(older.len());
+    (
+        &older[left.min(older.len())..],
+        &newer[gone.min(newer.len())..],
+    )
+}
+
 impl Totals {
     // With a record more. Those of at most 63 records have room for it.
     fn with(self, ended: Ended) -> Totals
@@ -76,8 +92,9 @@ impl Totals {
         requires { length older.now + length newer.now ≤ 64 + left }
         ensures { result ≡ totals_of (drop left (older.now ++ newer.now)) }
     {
+        let (older, newer) = without_oldest(older, newer, left);
         let mut totals = Totals::default();
-        for ended in older.iter().chain(newer).skip(left) {
+        for ended in older.iter().chain(newer) {
             totals = totals.with(*ended);
         }
         totals
