@@ -16,13 +16,6 @@ use twoparty::{NextFrame, Settings, TwoParty};
 // More frames than any script takes.
 const BUDGET: usize = 65535;
 
-// How a script ended, and whether all that is to be printed of it could be.
-#[derive(Drop)]
-pub struct Played {
-    pub ended: Result<Ending, FtError>,
-    pub printed: fmt::Result,
-}
-
 // What a script gives a run.
 #[derive(Clone, Copy)]
 struct Transfer<'a> {
@@ -103,26 +96,29 @@ impl Transfer<'_> {
 }
 
 // Runs the script that the text is, into the lent store: prints one line for each frame that passes,
-// then how it ended, or `refused 11` alone. It answers how it ended. The octets read stand in arrays of its own:
-// fixed memory is a rule of the project.
-pub fn play<W: fmt::Write>(out: &mut W, text: &[u8], store: &mut [u8]) -> Played
-    ensures { (result.ended ≡ (played store.old (script_of text.now)).result)
+// then how it ended, or `refused 11` alone. It answers how it ended; nobody is left to tell where nothing can be
+// printed. The octets read stand in arrays of its own: fixed memory is a rule of the project.
+#[tactic(auto, unfolding(script::specs::Answers::answer_of, script::specs::Answers::file_after, script::specs::Answers::damage_after))]
+pub fn play<W: fmt::Write>(out: &mut W, text: &[u8], store: &mut [u8]) -> Result<Ending, FtError>
+    ensures { (result ≡ (played store.old (script_of text.now)).result)
         × (store.new ≡ (played store.old (script_of text.now)).store) }
 {
     let mut file = [0; 8192];
     let mut damage = [0; 255];
-    let Some(script) = read::script(text, &mut file, &mut damage) else {
-        return Played {
-            ended: Err(FtError::ScriptMisshapen),
-            printed: print_refused(out, FtError::ScriptMisshapen),
-        };
-    };
-    let transfer = Transfer {
-        settings: settings(script.ioa, script.nof),
-        file: script.file,
-        damage: script.damage,
-    };
-    let ended = transfer.run(store);
-    let printed = transfer.print(out, ended);
-    Played { ended, printed }
+    match read::read(text, &mut file, &mut damage) {
+        Ok(script) => {
+            let transfer = Transfer {
+                settings: settings(script.ioa, script.nof),
+                file: &file[..script.file_len],
+                damage: &damage[..script.damage_len],
+            };
+            let ended = transfer.run(store);
+            let _ = transfer.print(out, ended);
+            ended
+        }
+        Err(error) => {
+            let _ = print_refused(out, error);
+            Err(error)
+        }
+    }
 }

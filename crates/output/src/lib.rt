@@ -10,17 +10,16 @@ const STDOUT: i32 = 1;
 #[derive(Clone, Copy)]
 pub struct Output;
 
+// It answers that all went well even where the octets could not go out: a program then goes on to what it has left
+// to print, since nobody is there to tell.
 impl fmt::Write for Output {
     fn write_str(&mut self, text: &str) -> fmt::Result {
-        if io::write_all(STDOUT, text.as_bytes()) {
-            Ok(())
-        } else {
-            Err(fmt::Error)
-        }
+        octets(text.as_bytes());
+        Ok(())
     }
 }
 
-// Writes octets, of which a text may be made.
+// Writes octets, of which a text may be made, as far as they can go out.
 pub fn octets(octets: &[u8]) {
     io::write_all(STDOUT, octets);
 }

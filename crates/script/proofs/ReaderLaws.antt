@@ -3,7 +3,7 @@ use Rattle.std.proofs.Common.{◌≡◌, ℕ, ◌+◌, ◌*◌, ◌-◌, ◌≤�
 use borrow.Author.Tests.{le-leb, lt-leb, ne_eqb}
 use Rattle.laws.proofs.Decide.{whens}
 use mathlib.Core.Path.{refl}
-use Rattle.std.specs.Prelude.{Option, Some, None}
+use Rattle.std.specs.Prelude.{Option, Some, None, IfNone}
 use Rattle.script.specs.Left.{found_in}
 use Rattle.script.specs.Reader.{nothing, found, begins_digit, more, number}
 
@@ -43,12 +43,11 @@ more_over limit v (x ∷ t) h = simp (whens, lt-leb _ _ h)
 -- for the readers' own proofs
 pub ruleset reading = (number_first, number_none, more_on, more_zero, more_stop, more_over)
 
--- a reading is told by what was found, and so is what is left behind it
-pub one_reading : (r s : Option ℕ) (t u : List ℕ) → found_in r t ≡ found_in s u → r ≡ s
-one_reading (Some v) (Some w) t u e = let same : v ≡ w = cc in rw same
-one_reading (Some v) None t u e = let z : ◌≡◌ {A = ℕ} 0 1 = cc in absurd (omega arith)
-one_reading None (Some w) t u e = let z : ◌≡◌ {A = ℕ} 0 1 = cc in absurd (omega arith)
-one_reading None None t u e = refl
-
-pub one_rest : (v w : ℕ) (t u : List ℕ) → found_in (Some v) t ≡ found_in (Some w) u → t ≡ u
-one_rest v w t u e = cc
+-- Two readings of one text that found the same are one: the same answer, and the same left behind it. Where nothing
+-- is found, all of the text is left, as the reader's methods promise (`kept`).
+pub one_reading : (text : List ℕ) (r s : Option ℕ) (t u : List ℕ) → found_in r t ≡ found_in s u → IfNone r (t ≡ text) → IfNone s (u ≡ text)
+    → (r ≡ s) × (t ≡ u)
+one_reading text (Some v) (Some w) t u e i j = let same : v ≡ w = cc in let rests : t ≡ u = cc in (rw same, rests)
+one_reading text (Some v) None t u e i j = let z : ◌≡◌ {A = ℕ} 0 1 = cc in absurd (omega arith)
+one_reading text None (Some w) t u e i j = let z : ◌≡◌ {A = ℕ} 0 1 = cc in absurd (omega arith)
+one_reading text None None t u e i j = (refl, cc)

@@ -3,7 +3,7 @@ use Rattle.std.specs.Prelude.{ℕ, ⊤, List, Option, Some, None}
 use Rattle.std.specs.Borrow.{Bor}
 use Rattle.script.specs.Script.{Script}
 use Rattle.script.specs.Reader.{Found, nothing, found}
-use Rattle.script.specs.declared.ReadScript.{ReadScript}
+use Rattle.script.specs.declared.read.ReadScript.{ReadScript}
 
 -- what was found, and what is left behind it
 abbrev pub found_in : {A : Type 0} → Option A → List ℕ → Found A

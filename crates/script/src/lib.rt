@@ -15,12 +15,3 @@ pub struct Outline {
     pub file_len: usize,
     pub damage_len: usize,
 }
-
-// What a script says, its octets in buffers that were lent to read it.
-#[derive(Clone, Copy, PartialEq, Eq)]
-pub struct ReadScript<'a> {
-    pub ioa: u32,
-    pub nof: Nof,
-    pub file: &'a [u8],
-    pub damage: &'a [u8],
-}

@@ -1,10 +1,10 @@
 // Reading a script: from a text's front on each part is found and taken off, or it is not there.
-ghost use Rattle.std.specs.Prelude.{◌≡◌, false, ◌∷◌, ◌+◌, ◌≤◌, length, MatchOption, IfSome};
+ghost use Rattle.std.specs.Prelude.{◌≡◌, false, ◌∷◌, ◌+◌, ◌≤◌, length, MatchOption, IfSome, IfNone, IfOk};
 ghost use Rattle.script.specs.Reader.{begins, begins_digit, number, spaced_number, numbers, counted_octets, ends, script_of};
 ghost use Rattle.script.specs.Answers.{answer_of, file_after, damage_after};
 ghost use Rattle.script.specs.Left.{found_in, octets_in, lent_in, script_in};
 
-use crate::{Outline, ReadScript};
+use crate::Outline;
 use asdu::{FtError, Nof};
 
 // The largest object address that three octets hold, and the largest name of a file.
@@ -19,8 +19,8 @@ pub const MAX_DAMAGE: u32 = 255;
 
 const MAX_OCTET: u32 = 255;
 
-// What is left of a text that is read. Each method takes what it finds off the front; where it finds nothing,
-// the text is refused, and what is left of it is open.
+// What is left of a text that is read. Each public method takes what it finds off the front; where it finds nothing,
+// all that was left is left still.
 #[derive(Drop)]
 pub struct Reader<'a> {
     pub rest: &'a [u8],
@@ -30,7 +30,7 @@ impl<'a> Reader<'a> {
     // This octet.
     #[tactic(auto, using(laws::proofs::Decide::decide), unfolding(crate::specs::Reader::begins))]
     pub fn octet(&mut self, octet: u8) -> Option<()>
-        ensures { MatchOption result (begins octet self.old.rest.now ≡ false) (λ _. self.old.rest.now ≡ octet ∷ self.new.rest.now) }
+        ensures { MatchOption result ((begins octet self.old.rest.now ≡ false) × (self.new.rest.now ≡ self.old.rest.now)) (λ _. self.old.rest.now ≡ octet ∷ self.new.rest.now) }
     {
         let (first, rest) = self.rest.split_first()?;
         if *first != octet {
@@ -53,9 +53,10 @@ impl<'a> Reader<'a> {
         Some(*first - b'0')
     }
 
-    // A number to its limit, without leading zeros. A digit more than any limit has is within 64 bits.
+    // The number whose digits stand in front; of a number that is refused, some digits may be gone. A digit more
+    // than any limit has is within 64 bits.
     #[tactic(auto, using(crate::proofs::ReaderLaws::reading))]
-    pub fn number(&mut self, limit: u32) -> Option<u32>
+    fn digits(&mut self, limit: u32) -> Option<u32>
         ensures found { found_in result self.new.rest.now ≡ number limit self.old.rest.now }
         ensures small { IfSome result (λ n. n ≤ limit) }
     {
@@ -73,14 +74,30 @@ impl<'a> Reader<'a> {
         None
     }
 
-    // A number after one space.
+    // A number to its limit, without leading zeros. It is read ahead, and taken off only where it is found.
+    pub fn number(&mut self, limit: u32) -> Option<u32>
+        ensures found { found_in result self.new.rest.now ≡ number limit self.old.rest.now }
+        ensures small { IfSome result (λ n. n ≤ limit) }
+        ensures kept { IfNone result (self.new.rest.now ≡ self.old.rest.now) }
+    {
+        let mut ahead = Reader { rest: self.rest };
+        let value = ahead.digits(limit)?;
+        self.rest = ahead.rest;
+        Some(value)
+    }
+
+    // A number after one space, taken off with it only where both are found.
     #[tactic(auto, using(laws::proofs::Decide::decide), unfolding(crate::specs::Reader::spaced_number, crate::specs::Reader::begins))]
     pub fn spaced_number(&mut self, limit: u32) -> Option<u32>
         ensures found { found_in result self.new.rest.now ≡ spaced_number limit self.old.rest.now }
         ensures small { IfSome result (λ n. n ≤ limit) }
+        ensures kept { IfNone result (self.new.rest.now ≡ self.old.rest.now) }
     {
-        self.octet(b' ')?;
-        self.number(limit)
+        let mut ahead = Reader { rest: self.rest };
+        ahead.octet(b' ')?;
+        let value = ahead.number(limit)?;
+        self.rest = ahead.rest;
+        Some(value)
     }
 
     // As many octets as the buffer has places, as numbers, each after one space.
@@ -116,9 +133,19 @@ impl<'a> Reader<'a> {
     }
 }
 
-// The script that a text is, its octets in the fronts of the buffers; what these hold otherwise is open.
+// What a script says, its octets in buffers that were lent to read it.
+#[derive(Clone, Copy)]
+struct ReadScript<'a> {
+    ioa: u32,
+    nof: Nof,
+    file: &'a [u8],
+    damage: &'a [u8],
+}
+
+// The script that a text is, its octets in the fronts of the buffers; what these hold otherwise is open, so `read`
+// lends buffers of its own.
 #[tactic(auto, using(laws::proofs::Decide::whens), unfolding(crate::specs::Reader::script_of, crate::specs::Reader::script_body, crate::specs::Reader::settings, crate::specs::Reader::begins))]
-pub fn script<'b>(
+fn script<'b>(
     text: &[u8],
     file: &'b mut [u8; 8192],
     damage: &'b mut [u8; 255],
@@ -148,7 +175,8 @@ pub fn script<'b>(
 // say what they hold afterwards.
 #[tactic(auto, unfolding(crate::specs::Answers::answer_of, crate::specs::Answers::file_after, crate::specs::Answers::damage_after))]
 pub fn read(text: &[u8], file: &mut [u8; 8192], damage: &mut [u8; 255]) -> Result<Outline, FtError>
-    ensures { (result ≡ answer_of (script_of text.now)) × (file.new ≡ file_after (script_of text.now) file.old) × (damage.new ≡ damage_after (script_of text.now) damage.old) }
+    ensures exact { (result ≡ answer_of (script_of text.now)) × (file.new ≡ file_after (script_of text.now) file.old) × (damage.new ≡ damage_after (script_of text.now) damage.old) }
+    ensures few { IfOk result (λ s. (s.file_len ≤ 8192) × (s.damage_len ≤ 255)) }
 {
     let mut octets = [0u8; 8192];
     let mut sections = [0u8; 255];

@@ -14,5 +14,5 @@ fn main() {
     let mut input = [0; LONGEST];
     let length = io::read_full(STDIN, &mut input);
     let mut store = [0; 8192];
-    console::play(&mut Output, &input[..length], &mut store);
+    let _ = console::play(&mut Output, &input[..length], &mut store);
 }
