@@ -5,13 +5,14 @@ use asdu::{
 };
 use shown::numbers::Behind;
 use shown::{Shown, answer, answer_word};
-use std::fmt;
+use std::fmt::Write;
 use words::numbers::{Blank, Octets};
+use words::writer::Writer;
 use words::{Answered, Unanswered, Words};
 
 // ---- Widths
 
-fn new_sizes<W: fmt::Write>(given: AddressSizes, out: &mut W) -> Answered {
+fn new_sizes(given: AddressSizes, out: Writer) -> Answered {
     match AddressSizes::new(
         given.cause_octets,
         given.common_address_octets,
@@ -22,19 +23,19 @@ fn new_sizes<W: fmt::Write>(given: AddressSizes, out: &mut W) -> Answered {
     }
 }
 
-fn of_sizes<W: fmt::Write>(words: &mut Words<'_>, out: &mut W) -> Answered {
+fn of_sizes(words: &mut Words<'_>) -> Answered {
     let what = words.word()?;
     let widths: AddressSizes = words.value()?;
     match what {
-        "new" => new_sizes(widths, out),
-        "is_right" => answer(widths.is_right(), out),
-        "originator_address" => answer(widths.originator_address(), out),
-        "header_len" => answer(widths.header_len(), out),
-        "max_ioa" => answer(widths.max_ioa(), out),
-        "max_common_address" => answer(widths.max_common_address(), out),
-        "broadcast_common_address" => answer(widths.broadcast_common_address(), out),
-        "max_segment" => answer(sizes::max_segment(widths), out),
-        "max_directory_files" => answer(sizes::max_directory_files(widths), out),
+        "new" => new_sizes(widths, words.end()?),
+        "is_right" => answer(widths.is_right(), words.end()?),
+        "originator_address" => answer(widths.originator_address(), words.end()?),
+        "header_len" => answer(widths.header_len(), words.end()?),
+        "max_ioa" => answer(widths.max_ioa(), words.end()?),
+        "max_common_address" => answer(widths.max_common_address(), words.end()?),
+        "broadcast_common_address" => answer(widths.broadcast_common_address(), words.end()?),
+        "max_segment" => answer(sizes::max_segment(widths), words.end()?),
+        "max_directory_files" => answer(sizes::max_directory_files(widths), words.end()?),
         _ => Err(Unanswered::Unread),
     }
 }
@@ -63,37 +64,42 @@ fn constant(name: &str) -> Result<usize, Unanswered> {
 // ---- Packed entries
 
 // Packs an entry into a buffer of so many octets, and shows the whole buffer as it then is.
-fn pack<W: fmt::Write>(words: &mut Words<'_>, out: &mut W) -> Answered {
+fn pack(words: &mut Words<'_>) -> Answered {
     let Blank(mut octets) = words.value()?;
     let entry: DirectoryEntry = words.value()?;
+    let mut out = words.end()?;
     match entry.pack(&mut octets) {
         Ok(()) => out.write_str("packed")?,
         Err(error) => write!(out, "{}", Shown(&error))?,
     }
     write!(out, "{}", Behind(&octets))?;
-    Ok(())
+    out.finish()
 }
 
-fn unpack<W: fmt::Write>(words: &mut Words<'_>, out: &mut W) -> Answered {
+fn unpack(words: &mut Words<'_>) -> Answered {
     let octets: Octets = words.value()?;
+    let out = words.end()?;
     answer(DirectoryEntry::unpack(&octets), out)
 }
 
-fn is_page<W: fmt::Write>(words: &mut Words<'_>, out: &mut W) -> Answered {
+fn is_page(words: &mut Words<'_>) -> Answered {
     let octets: Octets = words.value()?;
+    let out = words.end()?;
     answer(entry::is_page(&octets), out)
 }
 
 // ---- The checksum
 
-fn sum<W: fmt::Write>(words: &mut Words<'_>, out: &mut W) -> Answered {
+fn sum(words: &mut Words<'_>) -> Answered {
     let octets: Octets = words.value()?;
+    let out = words.end()?;
     answer(checksum::checksum(&octets, 0), out)
 }
 
-fn check_sum<W: fmt::Write>(words: &mut Words<'_>, out: &mut W) -> Answered {
+fn check_sum(words: &mut Words<'_>) -> Answered {
     let stated = words.value()?;
     let octets: Octets = words.value()?;
+    let out = words.end()?;
     match checksum::check_checksum(&octets, stated) {
         Ok(()) => answer_word("equal", out),
         Err(differ) => answer(differ, out),
@@ -103,27 +109,30 @@ fn check_sum<W: fmt::Write>(words: &mut Words<'_>, out: &mut W) -> Answered {
 // ---- Calls
 
 // Answers a call of this name.
-pub fn call<W: fmt::Write>(name: &str, words: &mut Words<'_>, out: &mut W) -> Answered {
+pub fn call(name: &str, words: &mut Words<'_>) -> Answered {
     match name {
-        "frq" => answer(words.value::<Frq>()?.is_in_range(), out),
-        "srq" => answer(words.value::<Srq>()?.is_in_range(), out),
-        "scq" => answer(words.value::<Scq>()?.is_in_range(), out),
-        "afq" => answer(words.value::<Afq>()?.is_in_range(), out),
-        "lof" => answer(words.value::<Lof>()?.is_in_range(), out),
-        "los" => answer(words.value::<Los>()?.is_in_range(), out),
-        "sof" => answer(words.value::<Sof>()?.is_in_range(), out),
-        "time" => answer(words.value::<Cp56Time2a>()?.is_in_range(), out),
-        "entry" => answer(words.value::<DirectoryEntry>()?.is_in_range(), out),
-        "pack" => pack(words, out),
-        "unpack" => unpack(words, out),
-        "is_page" => is_page(words, out),
-        "entry_address" => answer(entry::entry_address(words.value()?, words.value()?), out),
-        "constant" => answer(constant(words.word()?)?, out),
-        "sizes" => of_sizes(words, out),
-        "unknown_cause" => answer(words.value::<Unspecified>()?.cause(), out),
-        "is_mirror" => answer(headers::is_mirror(words.value()?), out),
-        "checksum" => sum(words, out),
-        "check_checksum" => check_sum(words, out),
+        "frq" => answer(words.value::<Frq>()?.is_in_range(), words.end()?),
+        "srq" => answer(words.value::<Srq>()?.is_in_range(), words.end()?),
+        "scq" => answer(words.value::<Scq>()?.is_in_range(), words.end()?),
+        "afq" => answer(words.value::<Afq>()?.is_in_range(), words.end()?),
+        "lof" => answer(words.value::<Lof>()?.is_in_range(), words.end()?),
+        "los" => answer(words.value::<Los>()?.is_in_range(), words.end()?),
+        "sof" => answer(words.value::<Sof>()?.is_in_range(), words.end()?),
+        "time" => answer(words.value::<Cp56Time2a>()?.is_in_range(), words.end()?),
+        "entry" => answer(words.value::<DirectoryEntry>()?.is_in_range(), words.end()?),
+        "pack" => pack(words),
+        "unpack" => unpack(words),
+        "is_page" => is_page(words),
+        "entry_address" => {
+            let address = entry::entry_address(words.value()?, words.value()?);
+            answer(address, words.end()?)
+        }
+        "constant" => answer(constant(words.word()?)?, words.end()?),
+        "sizes" => of_sizes(words),
+        "unknown_cause" => answer(words.value::<Unspecified>()?.cause(), words.end()?),
+        "is_mirror" => answer(headers::is_mirror(words.value()?), words.end()?),
+        "checksum" => sum(words),
+        "check_checksum" => check_sum(words),
         _ => Err(Unanswered::Unread),
     }
 }

@@ -3,7 +3,6 @@
 use asdu::{Cause, FtError, Nof, Nos};
 use ft::Asdu;
 use shown::answer;
-use std::fmt;
 use words::numbers::Beside;
 use words::{Answered, Unanswered, Words};
 
@@ -68,7 +67,7 @@ fn query_log(ca: u16, org: u8, ioa: u32, words: &mut Words<'_>) -> Result<Made, 
 }
 
 // Answers a call of a maker.
-pub fn call<W: fmt::Write>(words: &mut Words<'_>, out: &mut W) -> Answered {
+pub fn call(words: &mut Words<'_>) -> Answered {
     let maker = words.word()?;
     let ca: u16 = words.value()?;
     let org: u8 = words.value()?;
@@ -81,5 +80,5 @@ pub fn call<W: fmt::Write>(words: &mut Words<'_>, out: &mut W) -> Answered {
         "query_log" => query_log(ca, org, ioa, words)?,
         _ => of_section(maker, ca, org, ioa, words)?,
     };
-    answer(made, out)
+    answer(made, words.end()?)
 }

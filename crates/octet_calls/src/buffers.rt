@@ -1,7 +1,6 @@
 // Calls of one buffer: the file, the store or the damage list.
 use shown::answer;
 use shown::numbers::Spaced;
-use std::fmt;
 use words::numbers::Octets;
 use words::{Answered, Unanswered, Words};
 
@@ -11,29 +10,31 @@ fn part(octets: &[u8], from: usize, count: usize) -> &[u8] {
     rest.get(..count).unwrap_or(rest)
 }
 
-fn show_part<W: fmt::Write>(words: &mut Words<'_>, buffer: &Octets, out: &mut W) -> Answered {
+fn show_part(words: &mut Words<'_>, buffer: &Octets) -> Answered {
     let from: usize = words.value()?;
     let count: usize = words.value()?;
+    let out = words.end()?;
     answer(Spaced(part(buffer, from, count)), out)
 }
 
-fn sum_after<W: fmt::Write>(words: &mut Words<'_>, buffer: &Octets, out: &mut W) -> Answered {
+fn sum_after(words: &mut Words<'_>, buffer: &Octets) -> Answered {
     let so_far: u8 = words.value()?;
     let from: usize = words.value()?;
     let count: usize = words.value()?;
+    let out = words.end()?;
     answer(checksum::checksum(part(buffer, from, count), so_far), out)
 }
 
 // Answers a call of a buffer.
-pub fn call<W: fmt::Write>(words: &mut Words<'_>, buffer: &mut Octets, out: &mut W) -> Answered {
+pub fn call(words: &mut Words<'_>, buffer: &mut Octets) -> Answered {
     match words.word()? {
         "is" => {
             *buffer = words.value()?;
-            answer(buffer.len(), out)
+            answer(buffer.len(), words.end()?)
         }
-        "octets" => show_part(words, buffer, out),
-        "sum" => answer(checksum::checksum(buffer, 0), out),
-        "sum_after" => sum_after(words, buffer, out),
+        "octets" => show_part(words, buffer),
+        "sum" => answer(checksum::checksum(buffer, 0), words.end()?),
+        "sum_after" => sum_after(words, buffer),
         _ => Err(Unanswered::Unread),
     }
 }

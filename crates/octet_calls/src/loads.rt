@@ -2,7 +2,7 @@
 use generator::{Damage, Generator};
 use kept::Kept;
 use shown::answer;
-use std::fmt;
+use std::fmt::Write;
 use words::{Answered, Unanswered, Words};
 
 // STATE.
@@ -12,37 +12,42 @@ fn generator(words: &mut Words<'_>) -> Result<Generator, Unanswered> {
     })
 }
 
-fn step<W: fmt::Write>(words: &mut Words<'_>, out: &mut W) -> Answered {
-    let next = generator(words)?.step();
+fn step(words: &mut Words<'_>) -> Answered {
+    let before = generator(words)?;
+    let mut out = words.end()?;
+    let next = before.step();
     write!(out, "{} {}", next.state, next.octet())?;
-    Ok(())
+    out.finish()
 }
 
-fn fill_file<W: fmt::Write>(words: &mut Words<'_>, kept: &mut Kept, out: &mut W) -> Answered {
-    match generator(words)?.fill_file(&mut kept.file) {
+fn fill_file(words: &mut Words<'_>, kept: &mut Kept) -> Answered {
+    let before = generator(words)?;
+    let out = words.end()?;
+    match before.fill_file(&mut kept.file) {
         Ok(after) => answer(after.state, out),
         Err(error) => answer(error, out),
     }
 }
 
-fn fill_damage<W: fmt::Write>(words: &mut Words<'_>, kept: &mut Kept, out: &mut W) -> Answered {
+fn fill_damage(words: &mut Words<'_>, kept: &mut Kept) -> Answered {
     let before = generator(words)?;
     let length: usize = words.value()?;
+    let mut out = words.end()?;
     match before.fill_damage(length, &mut kept.damage) {
         Ok(Damage { count, generator }) => {
             write!(out, "{count} {}", generator.state)?;
-            Ok(())
+            out.finish()
         }
         Err(error) => answer(error, out),
     }
 }
 
 // Answers a call of the generator, over file and damage.
-pub fn call<W: fmt::Write>(words: &mut Words<'_>, kept: &mut Kept, out: &mut W) -> Answered {
+pub fn call(words: &mut Words<'_>, kept: &mut Kept) -> Answered {
     match words.word()? {
-        "step" => step(words, out),
-        "file" => fill_file(words, kept, out),
-        "damage" => fill_damage(words, kept, out),
+        "step" => step(words),
+        "file" => fill_file(words, kept),
+        "damage" => fill_damage(words, kept),
         _ => Err(Unanswered::Unread),
     }
 }

@@ -4,8 +4,9 @@ use crate::pages;
 use arrayvec::ArrayVec;
 use kept::Kept;
 use shown::{answer, text};
-use std::fmt;
+use std::fmt::Write;
 use words::numbers::{BEFORE, Octets};
+use words::writer::Writer;
 use words::{Answered, Unanswered};
 
 // A text of at most a line's length.
@@ -63,7 +64,7 @@ fn front(octets: &[u8], count: usize) -> Octets {
 }
 
 // Reads a script into the file and the damage list.
-fn read_script<W: fmt::Write>(script: &[u8], kept: &mut Kept, out: &mut W) -> Answered {
+fn read_script(script: &[u8], kept: &mut Kept, mut out: Writer) -> Answered {
     // Arrays, as the reader asks for.
     let mut octets = [0; 8192];
     let mut sections = [0; 255];
@@ -76,7 +77,7 @@ fn read_script<W: fmt::Write>(script: &[u8], kept: &mut Kept, out: &mut W) -> An
                 "{} {} {} {}",
                 outline.ioa, outline.nof.value, outline.file_len, outline.damage_len
             )?;
-            Ok(())
+            out.finish()
         }
         Err(error) => answer(error, out),
     }
@@ -85,7 +86,7 @@ fn read_script<W: fmt::Write>(script: &[u8], kept: &mut Kept, out: &mut W) -> An
 // ---- Loads
 
 // Shows the script of a load in quotes, the newline that ends it as \n.
-fn show_script<W: fmt::Write>(load: &[u8], out: &mut W) -> Answered {
+fn show_script(load: &[u8], mut out: Writer) -> Answered {
     let mut script = [0; 65536];
     match load_script::write(load, &mut script) {
         Ok(length) => {
@@ -94,14 +95,14 @@ fn show_script<W: fmt::Write>(load: &[u8], out: &mut W) -> Answered {
                 Some(line) => write!(out, "\"{line}\\n\"")?,
                 None => write!(out, "\"{words}\"")?,
             }
-            Ok(())
+            out.finish()
         }
         Err(error) => answer(error, out),
     }
 }
 
 // Reads the script of a load into the file and the damage list.
-fn read_load<W: fmt::Write>(load: &[u8], kept: &mut Kept, out: &mut W) -> Answered {
+fn read_load(load: &[u8], kept: &mut Kept, out: Writer) -> Answered {
     let mut script = [0; 65536];
     match load_script::write(load, &mut script) {
         Ok(length) => read_script(script.get(..length).unwrap_or(&script), kept, out),
@@ -112,7 +113,7 @@ fn read_load<W: fmt::Write>(load: &[u8], kept: &mut Kept, out: &mut W) -> Answer
 // ---- Entries
 
 // The page of the entries that a text is, into a page of 1,000 lines.
-fn print_entries<W: fmt::Write>(entries: &[u8], out: &mut W) -> Answered {
+fn print_entries(entries: &[u8], out: Writer) -> Answered {
     let mut page = [BEFORE; 53000];
     let written = directory_text::write(entries, &mut page);
     pages::show(written, &page, out)
@@ -121,15 +122,15 @@ fn print_entries<W: fmt::Write>(entries: &[u8], out: &mut W) -> Answered {
 // ---- Calls
 
 // Answers a call with a text in quotes, which reaches to the line's last quote.
-pub fn call<W: fmt::Write>(line: &[u8], kept: &mut Kept, out: &mut W) -> Answered {
+pub fn call(line: &[u8], kept: &mut Kept) -> Answered {
     if let Some(script) = quoted(line, b"script read") {
-        read_script(&unquoted(script)?, kept, out)
+        read_script(&unquoted(script)?, kept, Writer::behind(line))
     } else if let Some(load) = quoted(line, b"load text") {
-        show_script(&unquoted(load)?, out)
+        show_script(&unquoted(load)?, Writer::behind(line))
     } else if let Some(load) = quoted(line, b"load script") {
-        read_load(&unquoted(load)?, kept, out)
+        read_load(&unquoted(load)?, kept, Writer::behind(line))
     } else if let Some(entries) = quoted(line, b"page text") {
-        print_entries(&unquoted(entries)?, out)
+        print_entries(&unquoted(entries)?, Writer::behind(line))
     } else {
         Err(Unanswered::Unread)
     }

@@ -6,14 +6,16 @@ use exchange::Sender;
 use frame::Frame;
 use kept::Kept;
 use shown::{Shown, answer, answer_word, keep, text};
-use std::fmt;
+use std::fmt::Write;
 use twoparty::{NextFrame, Settings, TwoParty};
+use words::writer::Writer;
 use words::{Answered, Unanswered, Words};
 
 // Answers `run`.
-pub fn run<W: fmt::Write>(words: &mut Words<'_>, kept: &mut Kept, out: &mut W) -> Answered {
+pub fn run(words: &mut Words<'_>, kept: &mut Kept) -> Answered {
     let budget: usize = words.value()?;
     let settings: Settings = words.value()?;
+    let out = words.end()?;
     let ending = run::run(settings, &kept.file, &kept.damage, &mut kept.store, budget);
     answer(ending, out)
 }
@@ -21,44 +23,50 @@ pub fn run<W: fmt::Write>(words: &mut Words<'_>, kept: &mut Kept, out: &mut W) -
 // ---- A frame as a line
 
 // Shows the line of a frame as the transfer program prints it, without its end.
-fn show_line<W: fmt::Write>(sender: Sender, frame: Frame, out: &mut W) -> Answered {
+fn show_line(sender: Sender, frame: Frame, out: &mut Writer) -> Answered {
     // An array, as `lines::line` asks for.
     let mut line = [0; 32];
     let count = lines::line(sender, frame, &mut line);
     let words = text(line.get(..count).unwrap_or(&line))?;
-    answer_word(words.strip_suffix('\n').unwrap_or(words), out)
+    out.write_str(words.strip_suffix('\n').unwrap_or(words))?;
+    Ok(())
 }
 
 // Answers `script line`.
-pub fn script_line<W: fmt::Write>(words: &mut Words<'_>, out: &mut W) -> Answered {
+pub fn script_line(words: &mut Words<'_>) -> Answered {
     words.expect_word("line")?;
     let sender: Sender = words.value()?;
     let frame: Frame = words.value()?;
-    show_line(sender, frame, out)
+    let mut out = words.end()?;
+    show_line(sender, frame, &mut out)?;
+    out.finish()
 }
 
 // ---- Frames that pass
 
-fn show_next<W: fmt::Write>(kept: &Kept, out: &mut W) -> Answered {
+fn show_next(words: &mut Words<'_>, kept: &Kept) -> Answered {
+    let mut out = words.end()?;
     match kept.party.next_frame(&kept.file) {
         Ok(None) => answer_word("nothing", out),
         Ok(Some(NextFrame { sender, frame })) => {
             let by = Shown(&sender);
             let shown = Shown(&frame);
             write!(out, "{by} {shown}")?;
-            Ok(())
+            out.finish()
         }
         Err(error) => answer(error, out),
     }
 }
 
-fn new<W: fmt::Write>(words: &mut Words<'_>, kept: &mut Kept, out: &mut W) -> Answered {
+fn new(words: &mut Words<'_>, kept: &mut Kept) -> Answered {
     let settings: Settings = words.value()?;
+    let out = words.end()?;
     let made = TwoParty::new(settings, &kept.file, &kept.damage, &kept.store);
     keep(made, &mut kept.party, "made", out)
 }
 
-fn step<W: fmt::Write>(kept: &mut Kept, out: &mut W) -> Answered {
+fn step(words: &mut Words<'_>, kept: &mut Kept) -> Answered {
+    let out = words.end()?;
     let stepped = kept.party.step(&kept.file, &kept.damage, &mut kept.store);
     keep(stepped, &mut kept.party, "stepped", out)
 }
@@ -74,8 +82,9 @@ fn next_passed(kept: &mut Kept) -> Option<NextFrame> {
 }
 
 // Lets so many frames pass, or those that there are, and shows how many of each side did.
-fn pass<W: fmt::Write>(words: &mut Words<'_>, kept: &mut Kept, out: &mut W) -> Answered {
+fn pass(words: &mut Words<'_>, kept: &mut Kept) -> Answered {
     let count: usize = words.value()?;
+    let mut out = words.end()?;
     let mut provider: usize = 0;
     let mut receiver: usize = 0;
     for _ in 0..count {
@@ -96,29 +105,30 @@ fn pass<W: fmt::Write>(words: &mut Words<'_>, kept: &mut Kept, out: &mut W) -> A
         }
     }
     write!(out, "provider {provider} receiver {receiver}")?;
-    Ok(())
+    out.finish()
 }
 
 // The same, and shows the line of each and how many they are.
-fn pass_shown<W: fmt::Write>(words: &mut Words<'_>, kept: &mut Kept, out: &mut W) -> Answered {
+fn pass_shown(words: &mut Words<'_>, kept: &mut Kept) -> Answered {
     let count: usize = words.value()?;
+    let mut out = words.end()?;
     let mut passed: usize = 0;
     for _ in 0..count {
         let Some(NextFrame { sender, frame }) = next_passed(kept) else {
             break;
         };
-        show_line(sender, frame, out)?;
+        show_line(sender, frame, &mut out)?;
         out.write_str("\n")?;
         passed = passed.saturating_add(1);
     }
     write!(out, "{passed} frames")?;
-    Ok(())
+    out.finish()
 }
 
 // ---- Calls
 
 // Sets a part of the transfer, or takes the Provider or the Receiver kept.
-fn set<W: fmt::Write>(words: &mut Words<'_>, kept: &mut Kept, out: &mut W) -> Answered {
+fn set(words: &mut Words<'_>, kept: &mut Kept) -> Answered {
     match words.word()? {
         "provider" => kept.party.provider = kept.provider,
         "receiver" => kept.party.receiver = kept.receiver,
@@ -126,19 +136,19 @@ fn set<W: fmt::Write>(words: &mut Words<'_>, kept: &mut Kept, out: &mut W) -> An
         "radio" => kept.party.radio = words.value()?,
         _ => return Err(Unanswered::Unread),
     }
-    answer_word("set", out)
+    answer_word("set", words.end()?)
 }
 
 // Answers a call of the transfer that is kept.
-pub fn call<W: fmt::Write>(words: &mut Words<'_>, kept: &mut Kept, out: &mut W) -> Answered {
+pub fn call(words: &mut Words<'_>, kept: &mut Kept) -> Answered {
     match words.word()? {
-        "new" => new(words, kept, out),
-        "set" => set(words, kept, out),
-        "show" => answer(kept.party, out),
-        "next_frame" => show_next(kept, out),
-        "step" => step(kept, out),
-        "pass" => pass(words, kept, out),
-        "lines" => pass_shown(words, kept, out),
+        "new" => new(words, kept),
+        "set" => set(words, kept),
+        "show" => answer(kept.party, words.end()?),
+        "next_frame" => show_next(words, kept),
+        "step" => step(words, kept),
+        "pass" => pass(words, kept),
+        "lines" => pass_shown(words, kept),
         _ => Err(Unanswered::Unread),
     }
 }

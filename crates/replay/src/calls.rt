@@ -4,11 +4,10 @@ use frame_calls::{bodies, elements, frames, making, parts};
 use kept::Kept;
 use machine_calls::{providing, receiving};
 use octet_calls::{buffers, loads, pages, texts};
-use std::fmt;
 use words::{Answered, Unanswered, Words};
 
 // Answers a call of values, which keeps nothing.
-fn plain<W: fmt::Write>(name: &str, words: &mut Words<'_>, out: &mut W) -> Answered {
+fn plain(name: &str, words: &mut Words<'_>) -> Answered {
     match name {
         "frq"
         | "srq"
@@ -28,7 +27,7 @@ fn plain<W: fmt::Write>(name: &str, words: &mut Words<'_>, out: &mut W) -> Answe
         | "unknown_cause"
         | "is_mirror"
         | "checksum"
-        | "check_checksum" => elements::call(name, words, out),
+        | "check_checksum" => elements::call(name, words),
         "section_length"
         | "section_count"
         | "segment_count"
@@ -38,7 +37,7 @@ fn plain<W: fmt::Write>(name: &str, words: &mut Words<'_>, out: &mut W) -> Answe
         | "cut"
         | "close_section"
         | "close_file"
-        | "has_last" => { parts::call(name, words, out) }
+        | "has_last" => { parts::call(name, words) }
         "frame"
         | "frame_in_range"
         | "is_file_type"
@@ -46,59 +45,53 @@ fn plain<W: fmt::Write>(name: &str, words: &mut Words<'_>, out: &mut W) -> Answe
         | "answers"
         | "answers_type"
         | "header_of"
-        | "frame_with" => frames::call(name, words, out),
-        "make" => making::call(words, out),
-        "body" => bodies::call(words, out),
-        "requests" => providing::decide(words, out),
-        "script" => party_calls::script_line(words, out),
-        "record" => window_calls::record(words, out),
-        _ => station_calls::plain(name, words, out),
+        | "frame_with" => frames::call(name, words),
+        "make" => making::call(words),
+        "body" => bodies::call(words),
+        "requests" => providing::decide(words),
+        "script" => party_calls::script_line(words),
+        "record" => window_calls::record(words),
+        _ => station_calls::plain(name, words),
     }
 }
 
 // Answers a call of the store.
-fn of_store<W: fmt::Write>(words: &mut Words<'_>, kept: &mut Kept, out: &mut W) -> Answered {
+fn of_store(words: &mut Words<'_>, kept: &mut Kept) -> Answered {
     if words.skips("add") {
-        return pages::add(words, &mut kept.store, out);
+        return pages::add(words, &mut kept.store);
     }
-    buffers::call(words, &mut kept.store, out)
+    buffers::call(words, &mut kept.store)
 }
 
 // Answers the call that these words are.
-fn call<W: fmt::Write>(words: &mut Words<'_>, kept: &mut Kept, out: &mut W) -> Answered {
+fn call(words: &mut Words<'_>, kept: &mut Kept) -> Answered {
     match words.word()? {
-        "station" => station_calls::call(words, &mut kept.station, out),
-        "provider" => providing::call(words, kept, out),
-        "receiver" => receiving::call(words, kept, out),
-        "pager" => paging::packed(words, &kept.file, out),
-        "pager_list" => paging::listed(words, &kept.file, out),
-        "call" => calling::call(words, kept, out),
-        "run" => party_calls::run(words, kept, out),
-        "party" => party_calls::call(words, kept, out),
-        "window" => window_calls::call(words, kept, out),
-        "file" => buffers::call(words, &mut kept.file, out),
-        "damage" => buffers::call(words, &mut kept.damage, out),
-        "store" => of_store(words, kept, out),
-        "load" => loads::call(words, kept, out),
+        "station" => station_calls::call(words, &mut kept.station),
+        "provider" => providing::call(words, kept),
+        "receiver" => receiving::call(words, kept),
+        "pager" => paging::packed(words, &kept.file),
+        "pager_list" => paging::listed(words, &kept.file),
+        "call" => calling::call(words, kept),
+        "run" => party_calls::run(words, kept),
+        "party" => party_calls::call(words, kept),
+        "window" => window_calls::call(words, kept),
+        "file" => buffers::call(words, &mut kept.file),
+        "damage" => buffers::call(words, &mut kept.damage),
+        "store" => of_store(words, kept),
+        "load" => loads::call(words, kept),
         "page" => {
             words.expect_word("print")?;
-            pages::print(words, &kept.store, out)
+            pages::print(words, &kept.store)
         }
-        name => plain(name, words, out),
+        name => plain(name, words),
     }
 }
 
-// Answers the call that a line is. Nothing may be left of it.
-pub fn answer<W: fmt::Write>(line: &[u8], kept: &mut Kept, out: &mut W) -> Answered {
+// Answers the call that a line is, and writes both; nothing of a line that cannot be read.
+pub fn answer(line: &[u8], kept: &mut Kept) -> Answered {
     if line.ends_with(b"\"") {
-        return texts::call(line, kept, out);
+        return texts::call(line, kept);
     }
     let line = str::from_utf8(line).map_err(|_| Unanswered::Unread)?;
-    let mut words = Words::of(line);
-    call(&mut words, kept, out)?;
-    if words.is_at_end() {
-        Ok(())
-    } else {
-        Err(Unanswered::Unread)
-    }
+    call(&mut Words::of(line), kept)
 }

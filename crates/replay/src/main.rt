@@ -2,12 +2,11 @@
 #![tactic(auto)]
 
 mod calls; // which call a line is
+mod input; // what is read of a list
 mod list; // the lines of a list
 
 use std::env::{Env, FillError};
 use std::fs::File;
-use std::io;
-use std::io::{LineWriter, Write};
 use std::rt::Files;
 
 // The most octets of an argument.
@@ -15,31 +14,23 @@ const LONGEST: usize = 4096;
 
 // Plays the list of this name, and says whether every line of it could be read. A file whose name is no
 // text cannot be opened.
-fn is_played<R: Files + AllocGlobal, W: Write>(
-    rt: &R,
-    name: &[u8],
-    out: &mut W,
-) -> io::Result<bool> {
+fn is_played<R: Files>(rt: &R, name: &[u8]) -> bool {
     if let Ok(path) = str::from_utf8(name)
-        && let Ok(file) = File::open(rt, path)
+        && let Ok(mut file) = File::open(rt, path)
     {
-        return list::is_played(rt.alloc(), file, out);
+        return list::is_played(&mut file);
     }
-    out.write_all(name)?;
-    out.write_all(b" cannot be opened\n")?;
-    Ok(false)
+    output::octets(name);
+    output::octets(b" cannot be opened\n");
+    false
 }
 
 // The same of the list that an argument names, by its octets: `env::args` takes those alone that are text.
-fn is_argument_played<R: Files + Env + AllocGlobal, W: Write>(
-    rt: &R,
-    i: usize,
-    out: &mut W,
-) -> io::Result<bool> {
+fn is_argument_played<R: Files + Env>(rt: &R, i: usize) -> bool {
     let mut name = [0; LONGEST];
     match rt.arg(i, &mut name) {
-        Ok(count) => is_played(rt, &name[..count], out),
-        Err(_) => is_played(rt, b"", out),
+        Ok(count) => is_played(rt, &name[..count]),
+        Err(_) => is_played(rt, b""),
     }
 }
 
@@ -53,17 +44,16 @@ fn argument_count<R: Env>(rt: &R) -> usize {
     usize::MAX
 }
 
-fn main(rt: HostRuntime) -> io::Result<()> {
-    let mut out = LineWriter::new(rt.alloc(), io::writer(&rt))?;
+// Nobody is left to tell where the output cannot be written: what can be is, and every list is played.
+fn main(rt: HostRuntime) {
     let count = argument_count(&rt);
     if count <= 1 {
-        list::is_played(rt.alloc(), rt.stdin(), &mut out)?;
+        list::is_played(&mut rt.stdin());
     }
     // The lists that the arguments name, up to the first that cannot be read.
     for i in 1..count {
-        if !is_argument_played(&rt, i, &mut out)? {
+        if !is_argument_played(&rt, i) {
             break;
         }
     }
-    out.flush()
 }

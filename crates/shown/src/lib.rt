@@ -9,6 +9,8 @@ pub mod records; // stations, the records of both sides and of a transfer
 
 use asdu::FtError;
 use std::fmt;
+use std::fmt::Write;
+use words::writer::Writer;
 use words::{Answered, Unanswered};
 
 // A value as an answer shows it.
@@ -44,15 +46,15 @@ impl<'a, T: Show> fmt::Display for Shown<'a, T> {
 }
 
 // Shows a value as the answer of a call.
-pub fn answer<T: Show + Drop, W: fmt::Write>(value: T, out: &mut W) -> Answered {
-    value.show(out)?;
-    Ok(())
+pub fn answer<T: Show + Drop>(value: T, mut out: Writer) -> Answered {
+    value.show(&mut out)?;
+    out.finish()
 }
 
 // Shows a word as the answer of a call.
-pub fn answer_word<W: fmt::Write>(word: &str, out: &mut W) -> Answered {
+pub fn answer_word(word: &str, mut out: Writer) -> Answered {
     out.write_str(word)?;
-    Ok(())
+    out.finish()
 }
 
 // Octets of the library that are a text: all that it writes is ASCII.
@@ -61,18 +63,12 @@ pub fn text(octets: &[u8]) -> Result<&str, Unanswered> {
 }
 
 // Keeps what was made, and answers this word; or the refusal, which keeps what was before.
-pub fn keep<T: Drop, W: fmt::Write>(
-    res: Result<T, FtError>,
-    kept: &mut T,
-    word: &str,
-    out: &mut W,
-) -> Answered {
+pub fn keep<T: Drop>(res: Result<T, FtError>, kept: &mut T, word: &str, out: Writer) -> Answered {
     match res {
         Ok(made) => {
             *kept = made;
-            out.write_str(word)?;
+            answer_word(word, out)
         }
-        Err(error) => error.show(out)?,
+        Err(error) => answer(error, out),
     }
-    Ok(())
 }

@@ -5,18 +5,14 @@
 use kept::{Kept, NO_RECORD};
 use run::Ending;
 use shown::{Shown, answer, answer_word};
-use std::fmt;
+use std::fmt::Write;
 use twoparty::Settings;
 use window::{Ended, Window, WindowStep};
+use words::writer::Writer;
 use words::{Answered, Unanswered, Words};
 
 // Keeps the window that a call handed back, and shows this word where it was accepted.
-fn keep_step<W: fmt::Write>(
-    step: WindowStep,
-    window: &mut Window,
-    accepted: &str,
-    out: &mut W,
-) -> Answered {
+fn keep_step(step: WindowStep, window: &mut Window, accepted: &str, out: Writer) -> Answered {
     *window = step.window;
     match step.answer {
         Ok(()) => answer_word(accepted, out),
@@ -24,20 +20,21 @@ fn keep_step<W: fmt::Write>(
     }
 }
 
-fn show<W: fmt::Write>(window: &Window, out: &mut W) -> Answered {
+fn show(window: &Window, mut out: Writer) -> Answered {
     write!(
         out,
         "width {} count {} place {}",
         window.width, window.count, window.place
     )?;
-    Ok(())
+    out.finish()
 }
 
 // ---- Records
 
 // The record of a place; where there is none, one of zeros.
-fn record_at<W: fmt::Write>(words: &mut Words<'_>, window: &Window, out: &mut W) -> Answered {
+fn record_at(words: &mut Words<'_>, window: &Window) -> Answered {
     let place: u8 = words.value()?;
+    let out = words.end()?;
     let ended = window
         .records
         .get(usize::from(place))
@@ -56,7 +53,7 @@ fn set_record(words: &mut Words<'_>, window: &mut Window) -> Answered {
     Ok(())
 }
 
-fn set<W: fmt::Write>(words: &mut Words<'_>, window: &mut Window, out: &mut W) -> Answered {
+fn set(words: &mut Words<'_>, window: &mut Window) -> Answered {
     match words.word()? {
         "width" => window.width = words.value()?,
         "count" => window.count = words.value()?,
@@ -64,13 +61,13 @@ fn set<W: fmt::Write>(words: &mut Words<'_>, window: &mut Window, out: &mut W) -
         "record" => set_record(words, window)?,
         _ => return Err(Unanswered::Unread),
     }
-    answer_word("set", out)
+    answer_word("set", words.end()?)
 }
 
 // ---- Runs
 
 // Answers `record`: the record of a run that ended so.
-pub fn record<W: fmt::Write>(words: &mut Words<'_>, out: &mut W) -> Answered {
+pub fn record(words: &mut Words<'_>) -> Answered {
     let ending = match words.word()? {
         "whole" => Ending::Whole {
             length: words.value()?,
@@ -82,14 +79,16 @@ pub fn record<W: fmt::Write>(words: &mut Words<'_>, out: &mut W) -> Answered {
         _ => return Err(Unanswered::Unread),
     };
     let damaged: usize = words.value()?;
+    let out = words.end()?;
     answer(ended_run::record_of(Ok(ending), damaged), out)
 }
 
 // Shows the record of a run and adds it; a refused run has none.
-fn run<W: fmt::Write>(words: &mut Words<'_>, kept: &mut Kept, out: &mut W) -> Answered {
+fn run(words: &mut Words<'_>, kept: &mut Kept) -> Answered {
     let damaged: usize = words.value()?;
     let budget: usize = words.value()?;
     let settings: Settings = words.value()?;
+    let mut out = words.end()?;
     let ending = run::run(settings, &kept.file, &kept.damage, &mut kept.store, budget);
     match ended_run::record_of(ending, damaged) {
         Ok(ended) => {
@@ -103,19 +102,22 @@ fn run<W: fmt::Write>(words: &mut Words<'_>, kept: &mut Kept, out: &mut W) -> An
 // ---- Calls
 
 // Answers a call of the window.
-pub fn call<W: fmt::Write>(words: &mut Words<'_>, kept: &mut Kept, out: &mut W) -> Answered {
+pub fn call(words: &mut Words<'_>, kept: &mut Kept) -> Answered {
     match words.word()? {
-        "new" => keep_step(Window::new(words.value()?), &mut kept.window, "made", out),
+        "new" => {
+            let step = Window::new(words.value()?);
+            keep_step(step, &mut kept.window, "made", words.end()?)
+        }
         "add" => {
             let step = kept.window.add(words.value()?);
-            keep_step(step, &mut kept.window, "added", out)
+            keep_step(step, &mut kept.window, "added", words.end()?)
         }
-        "set" => set(words, &mut kept.window, out),
-        "show" => show(&kept.window, out),
-        "record" => record_at(words, &kept.window, out),
-        "totals" => answer(kept.window.totals(), out),
-        "is_right" => answer(kept.window.is_right(), out),
-        "run" => run(words, kept, out),
+        "set" => set(words, &mut kept.window),
+        "show" => show(&kept.window, words.end()?),
+        "record" => record_at(words, &kept.window),
+        "totals" => answer(kept.window.totals(), words.end()?),
+        "is_right" => answer(kept.window.is_right(), words.end()?),
+        "run" => run(words, kept),
         _ => Err(Unanswered::Unread),
     }
 }

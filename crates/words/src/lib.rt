@@ -5,8 +5,10 @@ pub mod elements; // elements, times, entries, widths and headers
 pub mod frames; // the frames, and what comes in
 pub mod numbers; // numbers, flags and octets
 pub mod records; // stations, replies, and the parts of records
+pub mod writer; // where an answer is written
 
 use std::fmt;
+use writer::Writer;
 
 // Why a line has no answer.
 #[derive(Clone, Copy, PartialEq, Eq)]
@@ -23,19 +25,23 @@ impl From<fmt::Error> for Unanswered {
     }
 }
 
-// What the function of a call gives back. It takes the words, what is kept and where the answer goes one by one: in
-// a struct of three borrows each would be taken out again at every use.
+// What the function of a call gives back. It reads the words to their end, and only then answers: the `Writer` of an
+// answer comes from `Words::end`, and the answer ends by `Writer::finish`.
 pub type Answered = Result<(), Unanswered>;
 
 // The words of a line that are not read yet, parted by single spaces; none where all are read.
 #[derive(Clone, Copy)]
 pub struct Words<'a> {
+    line: &'a str,
     rest: Option<&'a str>,
 }
 
 impl<'a> Words<'a> {
     pub fn of(line: &'a str) -> Words<'a> {
-        Words { rest: Some(line) }
+        Words {
+            line,
+            rest: Some(line),
+        }
     }
 
     // The next word. Where two spaces meet it is empty, and means nothing.
@@ -80,8 +86,13 @@ impl<'a> Words<'a> {
         self.rest.take()
     }
 
-    pub fn is_at_end(&self) -> bool {
-        self.rest.is_none()
+    // Ends the reading, before what the call does: nothing may be left of the line. The `Writer` has the line,
+    // and the answer follows it.
+    pub fn end(&self) -> Result<Writer, Unanswered> {
+        if self.rest.is_some() {
+            return Err(Unanswered::Unread);
+        }
+        Ok(Writer::behind(self.line.as_bytes()))
     }
 }
 
