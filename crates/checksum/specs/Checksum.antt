@@ -18,7 +18,7 @@ sum_after sum octets = (sum + octet_sum octets) % 256
 abbrev pub checksum : List ℕ → ℕ
 checksum octets = sum_after 0 octets
 
--- a stated sum that differs from the octets' is 8, with both
+-- a stated sum that differs from the octets' is refused with both sums, which `refusal_of` makes 8
 unfoldable pub checksum_checked : List ℕ → Chs → Result ⊤ SumsDiffer
 checksum_checked octets stated =
     when (checksum octets == stated.value) (Ok tt) (Err (record { expected = record { value = checksum octets }; got = stated }))

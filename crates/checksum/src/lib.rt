@@ -34,7 +34,7 @@ pub fn checksum(octets: &[u8], so_far: u8) -> Chs
     Chs { value: sum }
 }
 
-// Whether the stated sum is that of the octets: 8, with both sums, where it is not.
+// Whether the stated sum is that of the octets: both sums where it is not, which `From` makes refusal 8.
 pub fn check_checksum(octets: &[u8], stated: Chs) -> Result<(), SumsDiffer>
     ensures { result ≡ checksum_checked octets.now stated }
 {

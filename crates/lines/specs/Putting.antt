@@ -1,4 +1,4 @@
--- How the writer's own functions say what they wrote. Only these cite it; the line itself is in LineText.antt.
+-- How a writer says what it wrote. The proofs here cite it, and load_script; the line itself is in LineText.antt.
 use Rattle.std.specs.Prelude.{ℕ, ◌+◌, ◌≡◌, List, length}
 use Rattle.store.specs.Store.{written}
 
