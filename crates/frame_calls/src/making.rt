@@ -2,7 +2,9 @@
 // address, which go on one by one: each maker takes them so.
 use asdu::{Cause, FtError, Nof, Nos};
 use ft::Asdu;
-use shown::answer;
+use shown::end_with;
+use std::fmt;
+use words::destination::{Destination, Lent, OnOutput};
 use words::numbers::Beside;
 use words::{Answered, Unanswered, Words};
 
@@ -67,7 +69,7 @@ fn query_log(ca: u16, org: u8, ioa: u32, words: &mut Words<'_>) -> Result<Made, 
 }
 
 // Answers a call of a maker.
-pub fn call(words: &mut Words<'_>) -> Answered {
+fn answered<D: Destination>(words: &mut Words<'_>, to: D) -> Answered {
     let maker = words.word()?;
     let ca: u16 = words.value()?;
     let org: u8 = words.value()?;
@@ -80,5 +82,15 @@ pub fn call(words: &mut Words<'_>) -> Answered {
         "query_log" => query_log(ca, org, ioa, words)?,
         _ => of_section(maker, ca, org, ioa, words)?,
     };
-    answer(made, words.end()?)
+    end_with(made, to.end(words)?)
+}
+
+// The same, into a writer that is lent. What stands behind the call is left to read.
+pub fn call<W: fmt::Write>(words: &mut Words<'_>, out: &mut W) -> Answered {
+    answered(words, Lent(out))
+}
+
+// The same, on standard output. Nothing may stand behind the call.
+pub fn call_on_output(words: &mut Words<'_>) -> Answered {
+    answered(words, OnOutput)
 }

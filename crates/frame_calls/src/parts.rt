@@ -2,82 +2,94 @@
 // what is held, and the flag of a directory's last entry.
 use acceptance::Held;
 use asdu::{Chs, Nos};
-use shown::answer;
+use shown::end_with;
 use shown::numbers::Spaced;
+use std::fmt;
+use words::destination::{Destination, Lent, OnOutput};
 use words::numbers::Octets;
 use words::{Answered, Unanswered, Words};
 
-fn section(words: &mut Words<'_>) -> Answered {
+fn section<D: Destination>(words: &mut Words<'_>, to: D) -> Answered {
     let size: u32 = words.value()?;
     let nos: Nos = words.value()?;
     let octets: Octets = words.value()?;
-    let out = words.end()?;
-    answer(Spaced(sections::section(&octets, size, nos)), out)
+    let out = to.end(words)?;
+    end_with(Spaced(sections::section(&octets, size, nos)), out)
 }
 
-fn segment(words: &mut Words<'_>) -> Answered {
+fn segment<D: Destination>(words: &mut Words<'_>, to: D) -> Answered {
     let limit: u8 = words.value()?;
     let index: u32 = words.value()?;
     let octets: Octets = words.value()?;
-    let out = words.end()?;
-    answer(Spaced(sections::segment(&octets, limit, index)), out)
+    let out = to.end(words)?;
+    end_with(Spaced(sections::segment(&octets, limit, index)), out)
 }
 
-fn cut(words: &mut Words<'_>) -> Answered {
+fn cut<D: Destination>(words: &mut Words<'_>, to: D) -> Answered {
     let from: usize = words.value()?;
     let count: usize = words.value()?;
     let octets: Octets = words.value()?;
-    let out = words.end()?;
-    answer(Spaced(sections::cut(&octets, from, count)), out)
+    let out = to.end(words)?;
+    end_with(Spaced(sections::cut(&octets, from, count)), out)
 }
 
-fn segment_start(words: &mut Words<'_>) -> Answered {
+fn segment_start<D: Destination>(words: &mut Words<'_>, to: D) -> Answered {
     let size: u32 = words.value()?;
     let limit: u8 = words.value()?;
     let nos: Nos = words.value()?;
     let index: u32 = words.value()?;
-    let out = words.end()?;
-    answer(sections::segment_start(size, limit, nos, index), out)
+    let out = to.end(words)?;
+    end_with(sections::segment_start(size, limit, nos, index), out)
 }
 
-fn close_section(words: &mut Words<'_>) -> Answered {
+fn close_section<D: Destination>(words: &mut Words<'_>, to: D) -> Answered {
     let held: Held = words.value()?;
     let stated: Chs = words.value()?;
     let octets: Octets = words.value()?;
-    let out = words.end()?;
-    answer(acceptance::close_section(held, &octets, stated), out)
+    let out = to.end(words)?;
+    end_with(acceptance::close_section(held, &octets, stated), out)
 }
 
-fn close_file(words: &mut Words<'_>) -> Answered {
+fn close_file<D: Destination>(words: &mut Words<'_>, to: D) -> Answered {
     let held: Held = words.value()?;
     let stated: Chs = words.value()?;
     let octets: Octets = words.value()?;
-    let out = words.end()?;
-    answer(acceptance::close_file(held, &octets, stated), out)
+    let out = to.end(words)?;
+    end_with(acceptance::close_file(held, &octets, stated), out)
 }
 
-fn has_last(words: &mut Words<'_>) -> Answered {
+fn has_last<D: Destination>(words: &mut Words<'_>, to: D) -> Answered {
     let octets: Octets = words.value()?;
-    let out = words.end()?;
-    answer(stored::has_last(&octets), out)
+    let out = to.end(words)?;
+    end_with(stored::has_last(&octets), out)
 }
 
 // Answers a call of this name.
-pub fn call(name: &str, words: &mut Words<'_>) -> Answered {
+fn answered<D: Destination>(name: &str, words: &mut Words<'_>, to: D) -> Answered {
     match name {
-        "section_length" => answer(sections::section_length(words.value()?), words.end()?),
-        "section_count" => answer(sections::section_count(words.value()?), words.end()?),
+        "section_length" => end_with(sections::section_length(words.value()?), to.end(words)?),
+        "section_count" => end_with(sections::section_count(words.value()?), to.end(words)?),
         "segment_count" => {
             let count = sections::segment_count(words.value()?, words.value()?);
-            answer(count, words.end()?)
+            end_with(count, to.end(words)?)
         }
-        "segment_start" => segment_start(words),
-        "section" => section(words),
-        "segment" => segment(words),
-        "cut" => cut(words),
-        "close_section" => close_section(words),
-        "close_file" => close_file(words),
-        "has_last" => has_last(words),
+        "segment_start" => segment_start(words, to),
+        "section" => section(words, to),
+        "segment" => segment(words, to),
+        "cut" => cut(words, to),
+        "close_section" => close_section(words, to),
+        "close_file" => close_file(words, to),
+        "has_last" => has_last(words, to),
         _ => Err(Unanswered::Unread),
     }
+}
+
+// The same, into a writer that is lent. What stands behind the call is left to read.
+pub fn call<W: fmt::Write>(name: &str, words: &mut Words<'_>, out: &mut W) -> Answered {
+    answered(name, words, Lent(out))
+}
+
+// The same, on standard output. Nothing may stand behind the call.
+pub fn call_on_output(name: &str, words: &mut Words<'_>) -> Answered {
+    answered(name, words, OnOutput)
 }

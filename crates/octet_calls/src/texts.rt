@@ -3,10 +3,11 @@
 use crate::pages;
 use arrayvec::ArrayVec;
 use kept::Kept;
-use shown::{answer, text};
+use shown::{end_with, text};
+use std::fmt;
 use std::fmt::Write;
+use words::destination::{Destination, Lent, OnOutput, Out};
 use words::numbers::{BEFORE, Octets};
-use words::writer::Writer;
 use words::{Answered, Unanswered};
 
 // A text of at most a line's length.
@@ -64,7 +65,7 @@ fn front(octets: &[u8], count: usize) -> Octets {
 }
 
 // Reads a script into the file and the damage list.
-fn read_script(script: &[u8], kept: &mut Kept, mut out: Writer) -> Answered {
+fn read_script<O: Out>(script: &[u8], kept: &mut Kept, mut out: O) -> Answered {
     // Arrays, as the reader asks for.
     let mut octets = [0; 8192];
     let mut sections = [0; 255];
@@ -79,14 +80,14 @@ fn read_script(script: &[u8], kept: &mut Kept, mut out: Writer) -> Answered {
             )?;
             out.finish()
         }
-        Err(error) => answer(error, out),
+        Err(error) => end_with(error, out),
     }
 }
 
 // ---- Loads
 
 // Shows the script of a load in quotes, the newline that ends it as \n.
-fn show_script(load: &[u8], mut out: Writer) -> Answered {
+fn show_script<O: Out>(load: &[u8], mut out: O) -> Answered {
     let mut script = [0; 65536];
     match load_script::write(load, &mut script) {
         Ok(length) => {
@@ -97,23 +98,23 @@ fn show_script(load: &[u8], mut out: Writer) -> Answered {
             }
             out.finish()
         }
-        Err(error) => answer(error, out),
+        Err(error) => end_with(error, out),
     }
 }
 
 // Reads the script of a load into the file and the damage list.
-fn read_load(load: &[u8], kept: &mut Kept, out: Writer) -> Answered {
+fn read_load<O: Out>(load: &[u8], kept: &mut Kept, out: O) -> Answered {
     let mut script = [0; 65536];
     match load_script::write(load, &mut script) {
         Ok(length) => read_script(script.get(..length).unwrap_or(&script), kept, out),
-        Err(error) => answer(error, out),
+        Err(error) => end_with(error, out),
     }
 }
 
 // ---- Entries
 
 // The page of the entries that a text is, into a page of 1,000 lines.
-fn print_entries(entries: &[u8], out: Writer) -> Answered {
+fn print_entries<O: Out>(entries: &[u8], out: O) -> Answered {
     let mut page = [BEFORE; 53000];
     let written = directory_text::write(entries, &mut page);
     pages::show(written, &page, out)
@@ -122,16 +123,26 @@ fn print_entries(entries: &[u8], out: Writer) -> Answered {
 // ---- Calls
 
 // Answers a call with a text in quotes, which reaches to the line's last quote.
-pub fn call(line: &[u8], kept: &mut Kept) -> Answered {
+fn answered<D: Destination>(line: &[u8], kept: &mut Kept, to: D) -> Answered {
     if let Some(script) = quoted(line, b"script read") {
-        read_script(&unquoted(script)?, kept, Writer::behind(line))
+        read_script(&unquoted(script)?, kept, to.behind(line))
     } else if let Some(load) = quoted(line, b"load text") {
-        show_script(&unquoted(load)?, Writer::behind(line))
+        show_script(&unquoted(load)?, to.behind(line))
     } else if let Some(load) = quoted(line, b"load script") {
-        read_load(&unquoted(load)?, kept, Writer::behind(line))
+        read_load(&unquoted(load)?, kept, to.behind(line))
     } else if let Some(entries) = quoted(line, b"page text") {
-        print_entries(&unquoted(entries)?, Writer::behind(line))
+        print_entries(&unquoted(entries)?, to.behind(line))
     } else {
         Err(Unanswered::Unread)
     }
+}
+
+// The same, into a writer that is lent.
+pub fn call<W: fmt::Write>(line: &[u8], kept: &mut Kept, out: &mut W) -> Answered {
+    answered(line, kept, Lent(out))
+}
+
+// The same, on standard output, behind the line.
+pub fn call_on_output(line: &[u8], kept: &mut Kept) -> Answered {
+    answered(line, kept, OnOutput)
 }

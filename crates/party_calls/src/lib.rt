@@ -5,25 +5,36 @@
 use exchange::Sender;
 use frame::Frame;
 use kept::Kept;
-use shown::{Shown, answer, answer_word, keep, text};
+use shown::{Shown, end_with, end_with_word, keep_and_end, text};
+use std::fmt;
 use std::fmt::Write;
 use twoparty::{NextFrame, Settings, TwoParty};
-use words::writer::Writer;
+use words::destination::{Destination, Lent, OnOutput, Out};
 use words::{Answered, Unanswered, Words};
 
 // Answers `run`.
-pub fn run(words: &mut Words<'_>, kept: &mut Kept) -> Answered {
+fn run_to<D: Destination>(words: &mut Words<'_>, kept: &mut Kept, to: D) -> Answered {
     let budget: usize = words.value()?;
     let settings: Settings = words.value()?;
-    let out = words.end()?;
+    let out = to.end(words)?;
     let ending = run::run(settings, &kept.file, &kept.damage, &mut kept.store, budget);
-    answer(ending, out)
+    end_with(ending, out)
+}
+
+// The same, into a writer that is lent. What stands behind the call is left to read.
+pub fn run<W: fmt::Write>(words: &mut Words<'_>, kept: &mut Kept, out: &mut W) -> Answered {
+    run_to(words, kept, Lent(out))
+}
+
+// The same, on standard output. Nothing may stand behind the call.
+pub fn run_on_output(words: &mut Words<'_>, kept: &mut Kept) -> Answered {
+    run_to(words, kept, OnOutput)
 }
 
 // ---- A frame as a line
 
 // Shows the line of a frame as the transfer program prints it, without its end.
-fn show_line(sender: Sender, frame: Frame, out: &mut Writer) -> Answered {
+fn show_line<W: fmt::Write>(sender: Sender, frame: Frame, out: &mut W) -> Answered {
     // An array, as `lines::line` asks for.
     let mut line = [0; 32];
     let count = lines::line(sender, frame, &mut line);
@@ -33,42 +44,52 @@ fn show_line(sender: Sender, frame: Frame, out: &mut Writer) -> Answered {
 }
 
 // Answers `script line`.
-pub fn script_line(words: &mut Words<'_>) -> Answered {
+fn script_line_to<D: Destination>(words: &mut Words<'_>, to: D) -> Answered {
     words.expect_word("line")?;
     let sender: Sender = words.value()?;
     let frame: Frame = words.value()?;
-    let mut out = words.end()?;
+    let mut out = to.end(words)?;
     show_line(sender, frame, &mut out)?;
     out.finish()
 }
 
+// The same, into a writer that is lent. What stands behind the call is left to read.
+pub fn script_line<W: fmt::Write>(words: &mut Words<'_>, out: &mut W) -> Answered {
+    script_line_to(words, Lent(out))
+}
+
+// The same, on standard output. Nothing may stand behind the call.
+pub fn script_line_on_output(words: &mut Words<'_>) -> Answered {
+    script_line_to(words, OnOutput)
+}
+
 // ---- Frames that pass
 
-fn show_next(words: &mut Words<'_>, kept: &Kept) -> Answered {
-    let mut out = words.end()?;
+fn show_next<D: Destination>(words: &mut Words<'_>, kept: &Kept, to: D) -> Answered {
+    let mut out = to.end(words)?;
     match kept.party.next_frame(&kept.file) {
-        Ok(None) => answer_word("nothing", out),
+        Ok(None) => end_with_word("nothing", out),
         Ok(Some(NextFrame { sender, frame })) => {
             let by = Shown(&sender);
             let shown = Shown(&frame);
             write!(out, "{by} {shown}")?;
             out.finish()
         }
-        Err(error) => answer(error, out),
+        Err(error) => end_with(error, out),
     }
 }
 
-fn new(words: &mut Words<'_>, kept: &mut Kept) -> Answered {
+fn new<D: Destination>(words: &mut Words<'_>, kept: &mut Kept, to: D) -> Answered {
     let settings: Settings = words.value()?;
-    let out = words.end()?;
+    let out = to.end(words)?;
     let made = TwoParty::new(settings, &kept.file, &kept.damage, &kept.store);
-    keep(made, &mut kept.party, "made", out)
+    keep_and_end(made, &mut kept.party, "made", out)
 }
 
-fn step(words: &mut Words<'_>, kept: &mut Kept) -> Answered {
-    let out = words.end()?;
+fn step<D: Destination>(words: &mut Words<'_>, kept: &mut Kept, to: D) -> Answered {
+    let out = to.end(words)?;
     let stepped = kept.party.step(&kept.file, &kept.damage, &mut kept.store);
-    keep(stepped, &mut kept.party, "stepped", out)
+    keep_and_end(stepped, &mut kept.party, "stepped", out)
 }
 
 // Lets the next frame pass, if there is one and it is not refused.
@@ -82,9 +103,9 @@ fn next_passed(kept: &mut Kept) -> Option<NextFrame> {
 }
 
 // Lets so many frames pass, or those that there are, and shows how many of each side did.
-fn pass(words: &mut Words<'_>, kept: &mut Kept) -> Answered {
+fn pass<D: Destination>(words: &mut Words<'_>, kept: &mut Kept, to: D) -> Answered {
     let count: usize = words.value()?;
-    let mut out = words.end()?;
+    let mut out = to.end(words)?;
     let mut provider: usize = 0;
     let mut receiver: usize = 0;
     for _ in 0..count {
@@ -109,9 +130,9 @@ fn pass(words: &mut Words<'_>, kept: &mut Kept) -> Answered {
 }
 
 // The same, and shows the line of each and how many they are.
-fn pass_shown(words: &mut Words<'_>, kept: &mut Kept) -> Answered {
+fn pass_shown<D: Destination>(words: &mut Words<'_>, kept: &mut Kept, to: D) -> Answered {
     let count: usize = words.value()?;
-    let mut out = words.end()?;
+    let mut out = to.end(words)?;
     let mut passed: usize = 0;
     for _ in 0..count {
         let Some(NextFrame { sender, frame }) = next_passed(kept) else {
@@ -128,7 +149,7 @@ fn pass_shown(words: &mut Words<'_>, kept: &mut Kept) -> Answered {
 // ---- Calls
 
 // Sets a part of the transfer, or takes the Provider or the Receiver kept.
-fn set(words: &mut Words<'_>, kept: &mut Kept) -> Answered {
+fn set<D: Destination>(words: &mut Words<'_>, kept: &mut Kept, to: D) -> Answered {
     match words.word()? {
         "provider" => kept.party.provider = kept.provider,
         "receiver" => kept.party.receiver = kept.receiver,
@@ -136,19 +157,29 @@ fn set(words: &mut Words<'_>, kept: &mut Kept) -> Answered {
         "radio" => kept.party.radio = words.value()?,
         _ => return Err(Unanswered::Unread),
     }
-    answer_word("set", words.end()?)
+    end_with_word("set", to.end(words)?)
 }
 
 // Answers a call of the transfer that is kept.
-pub fn call(words: &mut Words<'_>, kept: &mut Kept) -> Answered {
+fn answered<D: Destination>(words: &mut Words<'_>, kept: &mut Kept, to: D) -> Answered {
     match words.word()? {
-        "new" => new(words, kept),
-        "set" => set(words, kept),
-        "show" => answer(kept.party, words.end()?),
-        "next_frame" => show_next(words, kept),
-        "step" => step(words, kept),
-        "pass" => pass(words, kept),
-        "lines" => pass_shown(words, kept),
+        "new" => new(words, kept, to),
+        "set" => set(words, kept, to),
+        "show" => end_with(kept.party, to.end(words)?),
+        "next_frame" => show_next(words, kept, to),
+        "step" => step(words, kept, to),
+        "pass" => pass(words, kept, to),
+        "lines" => pass_shown(words, kept, to),
         _ => Err(Unanswered::Unread),
     }
+}
+
+// The same, into a writer that is lent. What stands behind the call is left to read.
+pub fn call<W: fmt::Write>(words: &mut Words<'_>, kept: &mut Kept, out: &mut W) -> Answered {
+    answered(words, kept, Lent(out))
+}
+
+// The same, on standard output. Nothing may stand behind the call.
+pub fn call_on_output(words: &mut Words<'_>, kept: &mut Kept) -> Answered {
+    answered(words, kept, OnOutput)
 }

@@ -43,11 +43,14 @@ more_over limit v (x ∷ t) h = simp (whens, lt-leb _ _ h)
 -- for the readers' own proofs
 pub ruleset reading = (number_first, number_none, more_on, more_zero, more_stop, more_over)
 
--- Two readings of one text that found the same are one: the same answer, and the same left behind it. Where nothing
--- is found, all of the text is left, as the reader's methods promise (`kept`).
-pub one_reading : (text : List ℕ) (r s : Option ℕ) (t u : List ℕ) → found_in r t ≡ found_in s u → IfNone r (t ≡ text) → IfNone s (u ≡ text)
-    → (r ≡ s) × (t ≡ u)
-one_reading text (Some v) (Some w) t u e i j = let same : v ≡ w = cc in let rests : t ≡ u = cc in (rw same, rests)
-one_reading text (Some v) None t u e i j = let z : ◌≡◌ {A = ℕ} 0 1 = cc in absurd (omega arith)
-one_reading text None (Some w) t u e i j = let z : ◌≡◌ {A = ℕ} 0 1 = cc in absurd (omega arith)
-one_reading text None None t u e i j = (refl, cc)
+-- Two readings that found the same are one: the same answer, and where something is found the same left behind it.
+pub one_rest : (v w : ℕ) (t u : List ℕ) → found_in (Some v) t ≡ found_in (Some w) u → t ≡ u
+one_rest v w t u e = cc
+
+-- Where nothing is found, all of the text is left, as the reader's methods promise (`kept`): so of one text the same.
+pub one_reading : (r s : Option ℕ) (t u : List ℕ) → found_in r t ≡ found_in s u
+    → (r ≡ s) × ((text : List ℕ) → IfNone r (t ≡ text) → IfNone s (u ≡ text) → t ≡ u)
+one_reading (Some v) (Some w) t u e = let same : v ≡ w = cc in (rw same, λ text i j. one_rest v w t u e)
+one_reading (Some v) None t u e = let z : ◌≡◌ {A = ℕ} 0 1 = cc in absurd (omega arith)
+one_reading None (Some w) t u e = let z : ◌≡◌ {A = ℕ} 0 1 = cc in absurd (omega arith)
+one_reading None None t u e = (refl, λ text i j. cc)

@@ -1,6 +1,9 @@
 // The library's values as an answer shows them (docs/REPLAY.md).
 #![tactic(auto)]
 
+ghost use Rattle.std.specs.Prelude.{◌≡◌, IfErr, OnOk, MatchResult};
+ghost use Rattle.words.specs.declared.Unanswered.TheVariants.{Unwritten};
+
 pub mod answers; // what the library's functions answer
 pub mod elements; // elements, times, entries, widths and headers
 pub mod frames; // the frames
@@ -10,7 +13,7 @@ pub mod records; // stations, the records of both sides and of a transfer
 use asdu::FtError;
 use std::fmt;
 use std::fmt::Write;
-use words::writer::Writer;
+use words::destination::{Lent, Out};
 use words::{Answered, Unanswered};
 
 // A value as an answer shows it.
@@ -45,16 +48,35 @@ impl<'a, T: Show> fmt::Display for Shown<'a, T> {
     }
 }
 
-// Shows a value as the answer of a call.
-pub fn answer<T: Show + Drop>(value: T, mut out: Writer) -> Answered {
+// Shows a value as the answer of a call, and ends the answer.
+pub fn end_with<T: Show + Drop, O: Out>(value: T, mut out: O) -> Answered
+    ensures { IfErr result (λ why. why ≡ Unwritten) }
+{
     value.show(&mut out)?;
     out.finish()
 }
 
-// Shows a word as the answer of a call.
-pub fn answer_word(word: &str, mut out: Writer) -> Answered {
+// Shows a value as the answer of a call, in a lent writer.
+pub fn answer<T: Show + Drop, W: fmt::Write>(value: T, out: &mut W) -> Answered
+    ensures { IfErr result (λ why. why ≡ Unwritten) }
+{
+    end_with(value, Lent(out))
+}
+
+// Shows a word as the answer of a call, and ends the answer.
+pub fn end_with_word<O: Out>(word: &str, mut out: O) -> Answered
+    ensures { IfErr result (λ why. why ≡ Unwritten) }
+{
     out.write_str(word)?;
     out.finish()
+}
+
+// Shows a word as the answer of a call, in a lent writer.
+pub fn answer_word<W: fmt::Write>(word: &str, out: &mut W) -> Answered
+    ensures written { OnOk result (W.write_str_gives out.old word.now out.new) }
+    ensures unwritten { IfErr result (λ why. why ≡ Unwritten) }
+{
+    Ok(out.write_str(word)?)
 }
 
 // Octets of the library that are a text: all that it writes is ASCII.
@@ -62,13 +84,34 @@ pub fn text(octets: &[u8]) -> Result<&str, Unanswered> {
     str::from_utf8(octets).map_err(|_| Unanswered::Unwritten)
 }
 
-// Keeps what was made, and answers this word; or the refusal, which keeps what was before.
-pub fn keep<T: Drop>(res: Result<T, FtError>, kept: &mut T, word: &str, out: Writer) -> Answered {
+// Keeps what was made, and ends the answer with this word; or with the refusal, which keeps what was before.
+pub fn keep_and_end<T: Drop, O: Out>(
+    res: Result<T, FtError>,
+    kept: &mut T,
+    word: &str,
+    out: O,
+) -> Answered
+    ensures kept { MatchResult res (λ made. kept.new ≡ made) (λ _. kept.new ≡ kept.old) }
+    ensures unwritten { IfErr result (λ why. why ≡ Unwritten) }
+{
     match res {
         Ok(made) => {
             *kept = made;
-            answer_word(word, out)
+            end_with_word(word, out)
         }
-        Err(error) => answer(error, out),
+        Err(error) => end_with(error, out),
     }
+}
+
+// The same, with the answer in a lent writer.
+pub fn keep<T: Drop, W: fmt::Write>(
+    res: Result<T, FtError>,
+    kept: &mut T,
+    word: &str,
+    out: &mut W,
+) -> Answered
+    ensures kept { MatchResult res (λ made. kept.new ≡ made) (λ _. kept.new ≡ kept.old) }
+    ensures unwritten { IfErr result (λ why. why ≡ Unwritten) }
+{
+    keep_and_end(res, kept, word, Lent(out))
 }

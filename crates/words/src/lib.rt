@@ -1,12 +1,17 @@
 // The words of a call (docs/REPLAY.md), and the library's values as they are read from them.
 #![tactic(auto)]
 
+ghost use Rattle.std.specs.Prelude.{◌≡◌, true, false, Ok, Err, IsOk, MatchOption};
+ghost use Rattle.words.specs.declared.Unanswered.TheVariants.{Unread, Unwritten};
+
+pub mod destination; // where an answer goes
 pub mod elements; // elements, times, entries, widths and headers
 pub mod frames; // the frames, and what comes in
 pub mod numbers; // numbers, flags and octets
 pub mod records; // stations, replies, and the parts of records
-pub mod writer; // where an answer is written
+pub mod writer; // standard output
 
+use destination::{Destination, OnOutput};
 use std::fmt;
 use writer::Writer;
 
@@ -20,13 +25,16 @@ pub enum Unanswered {
 }
 
 impl From<fmt::Error> for Unanswered {
+    ghost from_gives = { λ _ why. why ≡ Unwritten };
+
     fn from(_error: fmt::Error) -> Unanswered {
         Unanswered::Unwritten
     }
 }
 
-// What the function of a call gives back. It reads the words to their end, and only then answers: the `Writer` of an
-// answer comes from `Words::end`, and the answer ends by `Writer::finish`.
+// What the function of a call gives back. It reads its words, and only then answers: what it writes to comes from a
+// `Destination`, and the answer ends by `Out::finish`. It takes its words, what is kept and where the answer goes one
+// by one: a struct of three borrows would have to be taken apart at every use.
 pub type Answered = Result<(), Unanswered>;
 
 // The words of a line that are not read yet, parted by single spaces; none where all are read.
@@ -86,13 +94,19 @@ impl<'a> Words<'a> {
         self.rest.take()
     }
 
+    // Whether all words are read.
+    pub fn is_at_end(&self) -> bool
+        ensures { MatchOption self.now.rest (result ≡ true) (λ _. result ≡ false) }
+    {
+        self.rest.is_none()
+    }
+
     // Ends the reading, before what the call does: nothing may be left of the line. The `Writer` has the line,
     // and the answer follows it.
-    pub fn end(&self) -> Result<Writer, Unanswered> {
-        if self.rest.is_some() {
-            return Err(Unanswered::Unread);
-        }
-        Ok(Writer::behind(self.line.as_bytes()))
+    pub fn end(&self) -> Result<Writer, Unanswered>
+        ensures { MatchOption self.now.rest (IsOk result) (λ _. result ≡ Err Unread) }
+    {
+        OnOutput.end(self)
     }
 }
 

@@ -1,5 +1,8 @@
 // Where an answer is written: on standard output, behind its line.
+ghost use Rattle.std.specs.Prelude.{◌≡◌, Ok};
+
 use crate::Answered;
+use crate::destination::Out;
 use arrayvec::ArrayVec;
 use std::fmt;
 
@@ -34,8 +37,17 @@ impl Writer {
         }
     }
 
-    // Ends the answer and its line. Each answer ends by it: what is collected goes out here.
-    pub fn finish(mut self) -> Answered {
+    // Ends the answer and its line.
+    pub fn finish(self) -> Answered
+        ensures { result ≡ Ok tt }
+    {
+        Out::finish(self)
+    }
+}
+
+impl Out for Writer {
+    // What is collected goes out here.
+    fn finish(mut self) -> Answered {
         self.put(b"\n");
         output::octets(&self.collected);
         Ok(())
